@@ -1,0 +1,2 @@
+-- Proofs of the statements in specs/.
+pub mod MarkedRows

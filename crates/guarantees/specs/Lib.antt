@@ -1,0 +1,2 @@
+-- Statements of paper 01 about both kinds of grid.
+pub mod MarkedRows

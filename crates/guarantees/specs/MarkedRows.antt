@@ -1,0 +1,67 @@
+-- 01, "Points on both edges": the marked rows R1 to R7 and C1 to C5.
+use Prim.Native.Nat.{ℕ}
+use mathlib.Core.Bool.{true, false}
+use mathlib.Core.List.{List, [], _∷_}
+use lib.IntN.{pos, negsuc}
+use lib.Ieee.{Float, fin, Format}
+use Rattle.multicubic.specs.declared.Saturation.{Saturation}
+use Rattle.multicubic.specs.declared.Saturation.the-variants.{None, InsideLow, OutsideLow, InsideHigh, OutsideHigh}
+use Rattle.multicubic.specs.declared.Loc.{Loc}
+use Rattle.multicubic.specs.declared.Loc.the-variants.{At, Unplaceable}
+use Rattle.multicubic.specs.Answers.{numberOf, placeOutcome}
+use Rattle.regular_axis.specs.Place as Regular
+use Rattle.rectilinear_axis.specs.Place as Rectilinear
+
+pub data Axis : Type 0 where
+  regular : Float → Float → ℕ → Axis
+  rectilinear : List Float → Axis
+
+pub data Told : Type 0 where
+  place : ℕ → Saturation → Told
+  refused : ℕ → Told
+
+pub record Row : Type 0 where
+  pub axis : Axis
+  pub query : Float
+  pub expected : Told
+
+abbrev pub locOf : Format → Axis → Float → Loc
+locOf f (regular start step n) x = Regular.locOf f start step n x
+locOf f (rectilinear entries) x = Rectilinear.locOf entries x
+
+-- origin and class, or 01's number
+abbrev pub told : Loc → Told
+told (At p) = place (p .origin) (p .class)
+told Unplaceable = refused (numberOf (placeOutcome 0 0 Unplaceable))
+
+abbrev pub answer : Format → Row → Told
+answer f r = told (locOf f (r .axis) (r .query))
+
+-- start 0, step 1, n = 5
+abbrev regularRow : Float → Told → Row
+regularRow x e = record { axis = regular (fin false 0 (pos 0)) (fin false 1 (pos 0)) 5; query = x; expected = e }
+
+-- 0, 1, 2, 4, 7
+abbrev rectilinearRow : Float → Told → Row
+rectilinearRow x e = record {
+  axis = rectilinear (fin false 0 (pos 0) ∷ fin false 1 (pos 0) ∷ fin false 1 (pos 1) ∷ fin false 1 (pos 2) ∷ fin false 7 (pos 0) ∷ []);
+  query = x;
+  expected = e;
+}
+
+-- R1 to R7, then C1 to C5
+unfoldable pub rows : List Row
+rows =
+    regularRow (fin true 1 (negsuc 0)) (place 0 OutsideLow)
+    ∷ regularRow (fin false 0 (pos 0)) (place 0 InsideLow)
+    ∷ regularRow (fin false 1 (pos 0)) (place 0 None)
+    ∷ regularRow (fin false 5 (negsuc 0)) (place 1 None)
+    ∷ regularRow (fin false 3 (pos 0)) (place 1 InsideHigh)
+    ∷ regularRow (fin false 1 (pos 2)) (place 1 OutsideHigh)
+    ∷ regularRow (fin false 1 (pos 63)) (refused 8)
+    ∷ rectilinearRow (fin false 0 (pos 0)) (place 0 OutsideLow)
+    ∷ rectilinearRow (fin false 1 (pos 0)) (place 0 InsideLow)
+    ∷ rectilinearRow (fin false 1 (pos 2)) (place 1 None)
+    ∷ rectilinearRow (fin false 7 (pos 0)) (place 1 InsideHigh)
+    ∷ rectilinearRow (fin false 1 (pos 3)) (place 1 OutsideHigh)
+    ∷ []

@@ -1,0 +1,9 @@
+-- Laws of IEEE 754 arithmetic, the format a parameter. None knows of tables.
+pub mod Unique
+pub mod ZeroOne
+pub mod Cancel
+pub mod Bound
+pub mod Gap
+pub mod Multiple
+pub mod Rank
+pub mod Order

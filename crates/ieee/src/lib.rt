@@ -1,0 +1,1 @@
+// Laws of IEEE 754 arithmetic over the format (proofs/). The crate has no code.

@@ -1,0 +1,2 @@
+-- Laws of the definitions, beyond the functions' own proofs.
+pub mod AtNodes

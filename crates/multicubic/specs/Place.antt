@@ -1,0 +1,43 @@
+-- 01, "The place (get_loc)": origin and class from L, for an axis of n entries. Each kind of axis has its own L.
+use Prim.Native.Nat.{ℕ, zero, suc, _-_, min}
+use mathlib.Core.Bool.{Bool, true, false, cond}
+use mathlib.Core.List.{List}
+use lib.IntN.{ℤ, pos, negsuc}
+use lib.Dec.{ltb, eqb}
+use lib.Ieee.{Float}
+use Rattle.multicubic.specs.declared.Saturation.{Saturation}
+use Rattle.multicubic.specs.declared.Saturation.the-variants.{None, InsideLow, OutsideLow, InsideHigh, OutsideHigh}
+use Rattle.multicubic.specs.declared.Place.{Place}
+use Rattle.multicubic.specs.declared.EdgeMode.{EdgeMode}
+use Rattle.multicubic.specs.declared.EdgeMode.the-variants.{Cubic, Straight}
+
+-- L raised to 0, then lowered to n-4
+unfoldable pub originOf : ℕ → ℤ → ℕ
+originOf n (negsuc k) = 0
+originOf n (pos l) = min l (n - 4)
+
+-- L < -1, L = -1, L = n-3, L > n-3, else None. A rectilinear L is at least -2 and at most n-2, so there L < -1 is L = -2,
+-- and L > n-3 is L = n-2.
+unfoldable pub classOf : ℕ → ℤ → Saturation
+classOf n (negsuc zero) = InsideLow
+classOf n (negsuc (suc k)) = OutsideLow
+classOf n (pos l) = cond (eqb l (n - 3)) InsideHigh (cond (ltb (n - 3) l) OutsideHigh None)
+
+abbrev pub placeOf : ℕ → ℤ → Place
+placeOf n l = record { origin = originOf n l; class = classOf n l }
+
+-- `linearize_extrapolation`: the two Outside classes follow a straight line
+abbrev pub straightOf : EdgeMode → Bool
+straightOf Cubic = false
+straightOf Straight = true
+
+-- What an axis gives to everything above it, for a query: nothing where it is unplaceable, else the place, the four weights and
+-- the four derivative weights.
+pub record Placed : Type 0 where
+  pub place : Place
+  pub weights : List Float
+  pub derivatives : List Float
+
+pub data AxisOutcome : Type 0 where
+  unplaceable : AxisOutcome
+  placed : Placed → AxisOutcome

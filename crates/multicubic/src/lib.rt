@@ -1,0 +1,233 @@
+// Port of src/multicubic/mod.rs (`Saturation`), and what both kinds of grid share: places, answers and checks 1 to 4.
+ghost use mathlib.Core.Path.{_≡_};
+ghost use mathlib.Core.Bool.{false};
+ghost use Prim.Native.Nat.{_≤_};
+ghost use lib.Dec.{ltb};
+ghost use lib.IntN.{pos, _-ℤ_};
+ghost use lib.ListN.{take};
+ghost use Rattle.multicubic.specs.Grid.{product, sum, anyOver, lowest, misjoined, sizeChecks};
+ghost use Rattle.multicubic.specs.Place.{straightOf, placeOf};
+
+// Where a query lies on one axis.
+pub enum Saturation {
+    None,
+    InsideLow,
+    OutsideLow,
+    InsideHigh,
+    OutsideHigh,
+}
+
+pub struct Place {
+    pub origin: usize,
+    pub class: Saturation,
+}
+
+// What `get_loc` finds.
+pub enum Loc {
+    At(Place),
+    Unplaceable,
+}
+
+// A regular axis.
+pub struct Axis {
+    pub start: f64,
+    pub step: f64,
+    pub count: usize,
+}
+
+// What the two Outside classes follow; Straight is the Rust's `linearize_extrapolation`.
+pub enum EdgeMode {
+    Cubic,
+    Straight,
+}
+
+// A single query's value, or the refusal.
+pub enum Answer {
+    Value(f64),
+    Refused {
+        number: u8,
+        query: usize,
+        axis: usize,
+    },
+}
+
+// The answer of a call without a value.
+pub enum Outcome {
+    Accepted,
+    Refused {
+        number: u8,
+        query: usize,
+        axis: usize,
+    },
+}
+
+// The length of the joined axes of a rectilinear grid; a regular grid has none.
+pub enum AxesLength {
+    Regular,
+    Joined(usize),
+}
+
+// The place on an axis of n entries where L is k less 2.
+pub fn place_from(n: usize, k: usize) -> Place
+    requires { ⌜ 4 ≤ n ⌝ }
+    ensures { λ r. ⌜ r ≡ placeOf n (pos k -ℤ pos 2) ⌝ }
+{
+    if k == 0 {
+        return Place {
+            origin: 0,
+            class: Saturation::OutsideLow,
+        };
+    }
+    if k == 1 {
+        return Place {
+            origin: 0,
+            class: Saturation::InsideLow,
+        };
+    }
+    if k < n - 1 {
+        return Place {
+            origin: k - 2,
+            class: Saturation::None,
+        };
+    }
+    if k == n - 1 {
+        return Place {
+            origin: n - 4,
+            class: Saturation::InsideHigh,
+        };
+    }
+    Place {
+        origin: n - 4,
+        class: Saturation::OutsideHigh,
+    }
+}
+
+// Whether the Outside classes follow a straight line: the Rust's `linearize_extrapolation`.
+pub fn linearize_extrapolation(mode: EdgeMode) -> bool
+    ensures { λ r. ⌜ r ≡ straightOf mode ⌝ }
+{
+    match mode {
+        EdgeMode::Cubic => false,
+        EdgeMode::Straight => true,
+    }
+}
+
+// Whether one of the first n counts is over 4,096.
+fn any_over(n: usize, counts: [usize; 4]) -> bool
+    requires { ⌜ n ≤ 4 ⌝ }
+    ensures { λ r. ⌜ r ≡ anyOver (take n counts) ⌝ }
+{
+    let mut i: usize = 0;
+    while i < n {
+        let count = counts[i];
+        if 4096 < count {
+            return true;
+        }
+        i += 1;
+    }
+    false
+}
+
+// The product of the first n counts. It is taken whole: a count of 0 after large ones makes it 0.
+fn product_of(n: usize, counts: [usize; 4]) -> usize
+    requires { ⌜ n ≤ 4 ⌝ }
+    requires { ⌜ anyOver (take n counts) ≡ false ⌝ }
+    ensures { λ r. ⌜ r ≡ product (take n counts) ⌝ }
+{
+    let mut p: usize = 1;
+    let mut i: usize = 0;
+    while i < n {
+        let count = counts[i];
+        p = p * count;
+        i += 1;
+    }
+    p
+}
+
+// The sum of the first n counts.
+fn sum_of(n: usize, counts: [usize; 4]) -> usize
+    requires { ⌜ n ≤ 4 ⌝ }
+    requires { ⌜ anyOver (take n counts) ≡ false ⌝ }
+    ensures { λ r. ⌜ r ≡ sum (take n counts) ⌝ }
+{
+    let mut total: usize = 0;
+    let mut i: usize = 0;
+    while i < n {
+        let count = counts[i];
+        total = total + count;
+        i += 1;
+    }
+    total
+}
+
+// Check 4: the lowest of the first n axes under 4 entries.
+fn first_short(n: usize, counts: [usize; 4]) -> Outcome
+    requires { ⌜ n ≤ 4 ⌝ }
+    ensures { λ r. ⌜ r ≡ lowest 4 (λ c. ltb c 4) 0 (take n counts) ⌝ }
+{
+    let mut i: usize = 0;
+    while i < n {
+        let count = counts[i];
+        if count < 4 {
+            return Outcome::Refused {
+                number: 4,
+                query: 0,
+                axis: i,
+            };
+        }
+        i += 1;
+    }
+    Outcome::Accepted
+}
+
+// Whether the joined axes' length is another than the sum of counts.
+fn misjoined(axes: AxesLength, total: usize) -> bool
+    ensures { λ r. ⌜ r ≡ misjoined axes total ⌝ }
+{
+    match axes {
+        AxesLength::Regular => false,
+        AxesLength::Joined(length) => length != total,
+    }
+}
+
+fn refused(number: u8) -> Outcome
+    ensures { λ r. ⌜ r ≡ Outcome.Refused number 0 0 ⌝ }
+{
+    Outcome::Refused {
+        number,
+        query: 0,
+        axis: 0,
+    }
+}
+
+// Checks 1 to 4: the counts of an axis_count axes, the length of the values and that of the joined axes.
+pub fn check_sizes(
+    axis_count: usize,
+    counts: [usize; 4],
+    values: usize,
+    axes: AxesLength,
+) -> Outcome
+    ensures { λ r. ⌜ r ≡ sizeChecks «axis_count» counts values axes ⌝ }
+{
+    if axis_count == 0 {
+        return refused(1);
+    }
+    if 4 < axis_count {
+        return refused(1);
+    }
+    if any_over(axis_count, counts) {
+        return refused(2);
+    }
+    let size = product_of(axis_count, counts);
+    if 1048576 < size {
+        return refused(2);
+    }
+    if values != size {
+        return refused(3);
+    }
+    let total = sum_of(axis_count, counts);
+    if misjoined(axes, total) {
+        return refused(3);
+    }
+    first_short(axis_count, counts)
+}

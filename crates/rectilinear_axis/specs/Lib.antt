@@ -1,0 +1,4 @@
+-- One rectilinear axis as paper 01 defines it: its entries.
+pub mod Place
+pub mod Weights
+pub mod Nodes

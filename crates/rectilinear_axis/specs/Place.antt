@@ -1,0 +1,19 @@
+-- 01, "The place (get_loc)", rectilinear. A NaN query has no entry below it.
+use Prim.Native.Nat.{ℕ, suc}
+use mathlib.Core.Bool.{cond}
+use mathlib.Core.List.{List, [], _∷_}
+use lib.IntN.{pos, _-ℤ_}
+use lib.ListN.{length}
+use lib.Ieee.{Float, lt}
+use Rattle.multicubic.specs.declared.Loc.{Loc}
+use Rattle.multicubic.specs.declared.Loc.the-variants.{At}
+use Rattle.multicubic.specs.Place.{placeOf}
+
+-- the number of entries below the query
+abbrev pub countBelow : Float → List Float → ℕ
+countBelow x [] = 0
+countBelow x (y ∷ ys) = cond (lt y x) (suc (countBelow x ys)) (countBelow x ys)
+
+-- L is the number of entries below the query, minus 2
+abbrev pub locOf : List Float → Float → Loc
+locOf g x = At (placeOf (length g) (pos (countBelow x g) -ℤ pos 2))

@@ -1,0 +1,4 @@
+-- Laws of the order of axes.
+pub mod Order
+pub mod Passes
+pub mod Examples

@@ -1,0 +1,103 @@
+// The order of the axes of a rectilinear grid: checks 5 and 6. The Rust compares only the first two entries of each axis.
+ghost use mathlib.Core.Path.{_≡_};
+ghost use Prim.Native.Nat.{ℕ, _≤_, _<_};
+ghost use lib.ListN.{length, getD, take};
+ghost use Rattle.multicubic.specs.Grid.{sum, lowest};
+ghost use Rattle.rectilinear_order.specs.Grid.{axesOf, notRising, disorder, orderChecks};
+use multicubic::Outcome;
+
+// Check 5 on one axis: entry 1 is not above entry 0.
+fn not_rising(grid: &[f64]) -> bool
+    requires { ⌜ 4 ≤ length (now grid) ⌝ }
+    ensures { λ r. ⌜ r ≡ notRising (now (grid .entry)) ⌝ }
+{
+    !(grid[0] < grid[1])
+}
+
+// Check 6 on one axis: an entry is NaN or below the one before it.
+fn disordered(grid: &[f64]) -> bool
+    requires { ⌜ 4 ≤ length (now grid) ⌝ }
+    ensures { λ r. ⌜ r ≡ disorder (now (grid .entry)) ⌝ }
+{
+    let mut i: usize = 1;
+    while i < grid.len() {
+        let before = grid[i - 1];
+        let entry = grid[i];
+        if before <= entry {
+            i += 1;
+        } else {
+            return true;
+        }
+    }
+    false
+}
+
+fn first_not_rising(axis_count: usize, counts: [usize; 4], axes: &[f64]) -> Outcome
+    requires { ⌜ «axis_count» ≤ 4 ⌝ }
+    requires { ⌜ sum (take «axis_count» counts) ≡ length (now axes) ⌝ }
+    requires { ⌜ ((i : ℕ) → i < «axis_count» → 4 ≤ getD counts i 0) ⌝ }
+    ensures { λ r. ⌜ r ≡ lowest 5 notRising 0 (axesOf (take «axis_count» counts) (now (axes .entry))) ⌝ }
+{
+    let mut at: usize = 0;
+    let mut i: usize = 0;
+    while i < axis_count {
+        let end = at + counts[i];
+        let grid = &axes[at..end];
+        if not_rising(grid) {
+            return Outcome::Refused {
+                number: 5,
+                query: 0,
+                axis: i,
+            };
+        }
+        at = end;
+        i += 1;
+    }
+    Outcome::Accepted
+}
+
+fn first_disordered(axis_count: usize, counts: [usize; 4], axes: &[f64]) -> Outcome
+    requires { ⌜ «axis_count» ≤ 4 ⌝ }
+    requires { ⌜ sum (take «axis_count» counts) ≡ length (now axes) ⌝ }
+    requires { ⌜ ((i : ℕ) → i < «axis_count» → 4 ≤ getD counts i 0) ⌝ }
+    ensures { λ r. ⌜ r ≡ lowest 6 disorder 0 (axesOf (take «axis_count» counts) (now (axes .entry))) ⌝ }
+{
+    let mut at: usize = 0;
+    let mut i: usize = 0;
+    while i < axis_count {
+        let end = at + counts[i];
+        let grid = &axes[at..end];
+        if disordered(grid) {
+            return Outcome::Refused {
+                number: 6,
+                query: 0,
+                axis: i,
+            };
+        }
+        at = end;
+        i += 1;
+    }
+    Outcome::Accepted
+}
+
+// Checks 5 and 6, each over all axes before the next.
+pub fn check_order(axis_count: usize, counts: [usize; 4], axes: &[f64]) -> Outcome
+    requires { ⌜ «axis_count» ≤ 4 ⌝ }
+    requires { ⌜ sum (take «axis_count» counts) ≡ length (now axes) ⌝ }
+    requires { ⌜ ((i : ℕ) → i < «axis_count» → 4 ≤ getD counts i 0) ⌝ }
+    ensures { λ r. ⌜ r ≡ orderChecks (axesOf (take «axis_count» counts) (now (axes .entry))) ⌝ }
+{
+    let rising = first_not_rising(axis_count, counts, axes);
+    match rising {
+        Outcome::Refused {
+            number,
+            query,
+            axis,
+        } => Outcome::Refused {
+            number,
+            query,
+            axis,
+        },
+        Outcome::Accepted => first_disordered(axis_count, counts, axes),
+    }
+}

@@ -1,0 +1,10 @@
+-- 01, "The gradient (interp_one_grad)".
+use Prim.Native.Nat.{ℕ}
+use mathlib.Core.List.{List}
+use lib.ListN.{set}
+use lib.Ieee.{Float, Format}
+use Rattle.reduction.specs.Value.{reduceOf}
+
+-- component d: the same reduction with axis d's weights replaced by its derivative weights
+abbrev pub componentOf : Format → List (List Float) → ℕ → List Float → (List ℕ → Float) → Float
+componentOf f ws d derivatives v = reduceOf f (set ws d derivatives) v

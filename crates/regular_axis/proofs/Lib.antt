@@ -1,0 +1,6 @@
+-- Laws of the definitions, beyond the functions' own proofs.
+pub mod Floor
+pub mod Rows
+pub mod Exact
+pub mod AtNodes
+pub mod Examples
