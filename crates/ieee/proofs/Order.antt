@@ -290,3 +290,60 @@ lt-or-le x y p q h = le-finite x y p q ∙ ap not h
 
 pub le-or-lt : (x y : Float) → T (finite x) → T (finite y) → le x y ≡ false → lt y x ≡ true
 le-or-lt x y p q h = not-false (lt y x) (sym (le-finite y x q p) ∙ h)
+
+-- ---- `=` is symmetric and transitive
+beq-swap : (s t : Bool) → Bool·beq s t ≡ Bool·beq t s
+beq-swap true true = refl
+beq-swap true false = refl
+beq-swap false true = refl
+beq-swap false false = refl
+
+level-swap : (s t : Bool) (a b : ℕ) → level s a t b ≡ true → level t b s a ≡ true
+level-swap s t a b e =
+    let p = and-split (eqb a b) (Bool·beq s t || eqb a 0) e in
+    let h = eqb-true a b (p .0) in
+    let q : (Bool·beq t s || eqb b 0) ≡ true = rw (beq-swap t s, ← h) (p .1) in
+    rw (eq-eqb b a (sym h), q)
+
+pub eq-sym : (x y : Float) → eq x y ≡ true → eq y x ≡ true
+unfolding eq
+eq-sym nan y e = no e
+eq-sym (inf s) nan e = no e
+eq-sym (inf s) (inf t) e = beq-swap t s ∙ e
+eq-sym (inf s) (fin t n d) e = no e
+eq-sym (fin s m e) nan p = no p
+eq-sym (fin s m e) (inf t) p = no p
+eq-sym (fin s m e) (fin t n d) p = level-swap s t (m * up e * down d) (n * up d * down e) p
+
+level-trans : (s t u : Bool) (a b x : ℕ) → level s a t b ≡ true → level t b u x ≡ true → level s a u x ≡ true
+level-trans s t u a b x p q =
+    let p' = and-split (eqb a b) (Bool·beq s t || eqb a 0) p in
+    let q' = and-split (eqb b x) (Bool·beq t u || eqb b 0) q in
+    let h = eqb-true a b (p' .0) in
+    let k = eqb-true b x (q' .0) in
+    let r : (Bool·beq t u || eqb a 0) ≡ true = rw h (q' .1) in
+    rw (eq-eqb a x (h ∙ k), signs s t u (eqb a 0) (p' .1) r)
+  where
+    signs : (s t u z : Bool) → (Bool·beq s t || z) ≡ true → (Bool·beq t u || z) ≡ true → (Bool·beq s u || z) ≡ true
+    signs s t u true p q = or-right (Bool·beq s u) true refl
+    signs true true u false p q = q
+    signs false false u false p q = q
+    signs true false u false p q = no p
+    signs false true u false p q = no p
+
+pub eq-trans : (x y z : Float) → eq x y ≡ true → eq y z ≡ true → eq x z ≡ true
+unfolding eq
+eq-trans nan y z p q = no p
+eq-trans (inf s) nan z p q = no p
+eq-trans (inf s) (inf t) nan p q = no q
+eq-trans (inf true) (inf true) (inf u) p q = q
+eq-trans (inf false) (inf false) (inf u) p q = q
+eq-trans (inf true) (inf false) (inf u) p q = no p
+eq-trans (inf false) (inf true) (inf u) p q = no p
+eq-trans (inf s) (inf t) (fin u k f) p q = no q
+eq-trans (inf s) (fin t n d) z p q = no p
+eq-trans (fin s m e) nan z p q = no p
+eq-trans (fin s m e) (inf t) z p q = no p
+eq-trans (fin s m e) (fin t n d) nan p q = no q
+eq-trans (fin s m e) (fin t n d) (inf u) p q = no q
+eq-trans (fin s m e) (fin t n d) (fin u k f) p q = sym (eq-xz s t u m n k e d f) ∙ level-trans s t u (X s t u m n k e d f) (Y s t u m n k e d f) (Z s t u m n k e d f) (eq-xy s t u m n k e d f ∙ p) (eq-yz s t u m n k e d f ∙ q)

@@ -14,7 +14,7 @@ use Rattle.multicubic.specs.declared.Outcome.{Outcome}
 use Rattle.multicubic.specs.declared.Outcome.the-variants.{Refused}
 use Rattle.multicubic.specs.Grid.{product, sum, anyOver, lowest}
 
-or-false : (a b : Bool) → (a || b) ≡ false → (a ≡ false) × (b ≡ false)
+pub or-false : (a b : Bool) → (a || b) ≡ false → (a ≡ false) × (b ≡ false)
 or-false true b e = (e, absurd (let z : _≡_ {A = ℕ} 0 1 = cc in omega arith))
 or-false false b e = (refl, e)
 

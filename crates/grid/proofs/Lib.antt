@@ -1,0 +1,7 @@
+-- Laws of a grid over a list of axes.
+pub mod Sizes
+pub mod AtNodes
+pub mod OfBlocks
+pub mod Batches
+pub mod InBatches
+pub mod Decide

@@ -1,0 +1,21 @@
+-- A grid whose counts passed checks 1 to 4 is sized. Assumes nothing.
+use mathlib.Core.Path.{_≡_, sym, ap, _∙_, subst}
+use mathlib.Core.List.{List, [], _∷_}
+use Prim.Native.Nat.{ℕ, suc, _≤_, _<_}
+use native.Mathlib.Omega.{arith}
+use lib.ListN.{length, getD, take}
+use Rattle.multicubic.specs.declared.AxesLength.{AxesLength}
+use Rattle.multicubic.specs.Grid.{product}
+use Rattle.multicubic.proofs.Accepted.{Passed}
+use Rattle.grid.specs.Query.{Grid, gridCounts}
+use Rattle.grid.specs.Nodes.{Long, Sized}
+
+pub all-long : (cs : List ℕ) → ((j : ℕ) → j < length cs → 4 ≤ getD cs j 0) → Long cs
+all-long [] h = tt
+all-long (c ∷ cs) h = (h 0 (omega arith), all-long cs (λ j k. h (suc j) (omega arith)))
+
+pub sized-by : (g : Grid) {n : ℕ} {counts : List ℕ} {axes : AxesLength} → Passed n counts (length (g .vals)) axes → gridCounts g ≡ take n counts → Sized g
+sized-by g {n} {counts} p e = record {
+  long = subst Long (sym e) (all-long (take n counts) (p .long));
+  size = p .values-is ∙ ap product (sym e);
+}

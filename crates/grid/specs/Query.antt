@@ -1,0 +1,106 @@
+-- One query on a grid: its places, its value and its gradient (01, "The place", "The value", "The gradient").
+use Prim.Native.Nat.{ℕ, suc}
+use mathlib.Core.List.{List, [], _∷_, _++_, map}
+use lib.ListN.{take}
+use lib.Ieee.{Float, Format}
+use Rattle.ieee.specs.Numbers.{zero}
+use Rattle.multicubic.specs.declared.Outcome.{Outcome}
+use Rattle.multicubic.specs.declared.Outcome.the-variants.{Accepted, Refused}
+use Rattle.multicubic.specs.declared.Answer.{Answer}
+use Rattle.multicubic.specs.declared.Answer.the-variants as Ans
+use Rattle.multicubic.specs.declared.Place.{Place}
+use Rattle.multicubic.specs.declared.Saturation.the-variants.{None}
+use Rattle.multicubic.specs.Grid.{_then_}
+use Rattle.multicubic.specs.Place.{Placed, AxisOutcome, unplaceable, placed}
+use Rattle.reduction.specs.Value.{stridesOf, block, reduceOf}
+use Rattle.reduction.specs.Gradient.{componentOf}
+
+-- An axis, to everything above it: its own number of entries, the outcome of a query's coordinate on it, and its node i.
+pub record GridAxis : Type 0 where
+  pub count : ℕ
+  pub outcome : Float → AxisOutcome
+  pub node : ℕ → Float
+
+abbrev pub countsOf : List GridAxis → List ℕ
+countsOf gs = map (λ (g : GridAxis). g .count) gs
+
+-- what the axes give for a query: a place on each, or the lowest axis on which it is unplaceable
+pub data Found : Type 0 where
+  unplaceableAt : ℕ → Found
+  places : List Placed → Found
+
+abbrev pub cases : {A : Type 0} → Found → (ℕ → A) → (List Placed → A) → A
+cases (unplaceableAt axis) refused answered = refused axis
+cases (places ps) refused answered = answered ps
+
+abbrev pub located : ℕ → AxisOutcome → Found → Found
+located axis unplaceable later = unplaceableAt axis
+located axis (placed p) (unplaceableAt later) = unplaceableAt later
+located axis (placed p) (places ps) = places (p ∷ ps)
+
+-- from an axis on; the query gives a coordinate for each axis
+abbrev pub find : ℕ → List GridAxis → (ℕ → Float) → Found
+find axis [] query = places []
+find axis (g ∷ gs) query = located axis (g .outcome (query axis)) (find (suc axis) gs query)
+
+abbrev pub originsOf : List Placed → List ℕ
+originsOf ps = map (λ (p : Placed). p .place .origin) ps
+
+abbrev pub rowsOf : List Placed → List (List Float)
+rowsOf ps = map (λ (p : Placed). p .weights) ps
+
+-- the block at the places, from the values of the grid
+abbrev pub blockOf : List ℕ → List Float → List Placed → List ℕ → Float
+blockOf counts vals ps = block vals (stridesOf counts) (originsOf ps)
+
+unfoldable pub valueOf : Format → List ℕ → List Float → List Placed → Float
+valueOf f counts vals ps = reduceOf f (rowsOf ps) (blockOf counts vals ps)
+
+-- component d for each axis d: its row replaced by its derivative weights
+unfoldable pub componentAt : Format → List ℕ → List Float → List Placed → ℕ → Placed → Float
+componentAt f counts vals ps d p = componentOf f (rowsOf ps) d (p .derivatives) (blockOf counts vals ps)
+
+abbrev pub componentsFrom : Format → List ℕ → List Float → List Placed → ℕ → List Placed → List Float
+componentsFrom f counts vals ps d [] = []
+componentsFrom f counts vals ps d (p ∷ later) = componentAt f counts vals ps d p ∷ componentsFrom f counts vals ps (suc d) later
+
+abbrev pub componentsOf : Format → List ℕ → List Float → List Placed → List Float
+componentsOf f counts vals ps = componentsFrom f counts vals ps 0 ps
+
+-- What a grid is to its queries: the outcome of its checks 1 to 6, its axis count, its axes and its values.
+pub record Grid : Type 0 where
+  pub checked : Outcome
+  pub axis-count : ℕ
+  pub axes : List GridAxis
+  pub vals : List Float
+
+abbrev pub gridCounts : Grid → List ℕ
+gridCounts g = countsOf (g .axes)
+
+-- A single query is query 0: the grid's refusal, or 8 with the lowest axis on which the query is unplaceable.
+abbrev pub outcomeOf : Grid → (ℕ → Float) → Outcome
+outcomeOf g query = g .checked then cases (find 0 (g .axes) query) (λ axis. Refused 8 0 axis) (λ ps. Accepted)
+
+-- its value, or the refusal
+abbrev pub answered : Outcome → Float → Answer
+answered (Refused number query axis) value = Ans.Refused number query axis
+answered Accepted value = Ans.Value value
+
+abbrev pub valueAnswer : Format → Grid → (ℕ → Float) → Answer
+valueAnswer f g query = answered (outcomeOf g query) (cases (find 0 (g .axes) query) (λ axis. zero) (valueOf f (gridCounts g) (g .vals)))
+
+-- the first four of some, with others in place of what is missing; none of them on refusal
+abbrev pub fourOf : {A : Type 0} → Outcome → A → List A → List A
+fourOf (Refused number query axis) other xs = take 4 (other ∷ other ∷ other ∷ other ∷ [])
+fourOf Accepted other xs = take 4 (xs ++ (other ∷ other ∷ other ∷ other ∷ []))
+
+-- the gradient's four numbers: +0 past the axis count, all +0 on refusal
+abbrev pub gradientAnswer : Format → Grid → (ℕ → Float) → List Float
+gradientAnswer f g query = fourOf (outcomeOf g query) zero (cases (find 0 (g .axes) query) (λ axis. []) (componentsOf f (gridCounts g) (g .vals)))
+
+-- the four places: origin 0 and None past the axis count, and on refusal
+abbrev pub placesOf : List Placed → List Place
+placesOf ps = map (λ (p : Placed). p .place) ps
+
+abbrev pub placeAnswer : Grid → (ℕ → Float) → List Place
+placeAnswer g query = fourOf (outcomeOf g query) (record { origin = 0; class = None }) (cases (find 0 (g .axes) query) (λ axis. []) placesOf)

@@ -1,0 +1,50 @@
+-- Demand 3 on a rectilinear grid, of the definitions. The laws of `grid` on batches and blocks apply by `node-case`, `alike` and `axes-counted`.
+-- Assumes nothing.
+use mathlib.Core.Path.{_≡_, refl, ap, _∙_}
+use mathlib.Core.Bool.{Bool}
+use mathlib.Core.List.{List, [], _∷_}
+use Prim.Native.Nat.{ℕ, suc, _≤_}
+use lib.Dec.{T}
+use lib.ListN.{length, take, drop}
+use lib.Seq.{length-take-le}
+use lib.Ieee.{Float, Format, eq, fits}
+use Rattle.multicubic.specs.declared.EdgeMode.{EdgeMode}
+use Rattle.multicubic.specs.declared.Outcome.the-variants.{Accepted}
+use Rattle.multicubic.specs.declared.Answer.the-variants.{Value}
+use Rattle.rectilinear_order.specs.Grid.{axesOf}
+use Rattle.grid.specs.Query.{valueAnswer}
+use Rattle.grid.specs.Nodes.{AtIndex, stored, FiniteValues, Fits}
+use Rattle.grid.proofs.AtNodes.{NodeCase, node-answer}
+use Rattle.grid.proofs.InBatches.{Alike}
+use Rattle.rectilinear.specs.Grid.{gridAxes, gridOf, AllPremises}
+use Rattle.rectilinear.proofs.Sizes.{sized}
+use Rattle.rectilinear.proofs.Laws.{node-laws}
+
+module _ (f : Format) (n : ℕ) (counts : List ℕ) (joined : List Float) (entries : Fits f joined) (premises : AllPremises f (axesOf (take n counts) joined)) (is : List ℕ) (query : ℕ → Float) (typed : (a : ℕ) → T (fits f (query a))) where
+  pub node-case : (vals : List Float) (mode : EdgeMode) → gridOf f n counts joined vals mode .checked ≡ Accepted → FiniteValues vals → Fits f vals → AtIndex 0 (gridOf f n counts joined vals mode .axes) is query → NodeCase f (gridOf f n counts joined vals mode) is query
+  node-case vals mode accepted whole held at = record {
+    sized = sized f n counts joined vals mode accepted;
+    whole = whole;
+    held = held;
+    laws = node-laws f n counts joined vals mode accepted entries premises;
+    typed = typed;
+    at = at;
+  }
+
+  -- "On every accepted grid within the premises, however linearize_extrapolation is set, and for every query at a node, interp_one answers
+  -- with the number stored there."
+  pub node : (vals : List Float) (mode : EdgeMode) → gridOf f n counts joined vals mode .checked ≡ Accepted → FiniteValues vals → Fits f vals → AtIndex 0 (gridOf f n counts joined vals mode .axes) is query
+      → (v : Float) × (valueAnswer f (gridOf f n counts joined vals mode) query ≡ Value v) × T (eq v (stored (gridOf f n counts joined vals mode) is))
+  node vals mode accepted whole held at = node-answer f (gridOf f n counts joined vals mode) is query accepted (node-case vals mode accepted whole held at)
+
+-- two tables on the same axes, with the same setting
+pub alike : (f : Format) (n : ℕ) (counts : List ℕ) (joined vals vals' : List Float) (mode : EdgeMode) → gridOf f n counts joined vals mode .checked ≡ Accepted → gridOf f n counts joined vals' mode .checked ≡ Accepted → Alike (gridOf f n counts joined vals mode) (gridOf f n counts joined vals' mode)
+alike f n counts joined vals vals' mode taken taken' = record { taken = taken; taken' = taken'; count = refl; axes = refl }
+
+axes-length : (f : Format) (straight : Bool) (counts : List ℕ) (joined : List Float) → length (gridAxes f straight (axesOf counts joined)) ≡ length counts
+axes-length f straight [] joined = refl
+axes-length f straight (c ∷ rest) joined = ap suc (axes-length f straight rest (drop c joined))
+
+-- as many axes as the axis count
+pub axes-counted : (f : Format) (n : ℕ) (counts : List ℕ) (joined vals : List Float) (mode : EdgeMode) → n ≤ length counts → length (gridOf f n counts joined vals mode .axes) ≡ n
+axes-counted f n counts joined vals mode h = axes-length f _ (take n counts) joined ∙ length-take-le n counts h

@@ -1,0 +1,5 @@
+-- Laws of a rectilinear grid.
+pub mod Sizes
+pub mod Laws
+pub mod Guarantees
+pub mod Examples

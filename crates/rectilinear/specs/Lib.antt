@@ -1,0 +1,2 @@
+-- A rectilinear grid as paper 01 defines it.
+pub mod Grid
