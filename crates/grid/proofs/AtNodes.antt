@@ -22,7 +22,8 @@ use Rattle.reduction.specs.Value.{stridesOf, offset, shifted, valueAt, block, r
 use Rattle.reduction.specs.Nodes.{OneAtEach, InBlock}
 use Rattle.reduction.proofs.Blocks.{Held, value-at-node}
 use Rattle.grid.specs.Query.{GridAxis, Grid, Found, places, located, find, countsOf, gridCounts, originsOf, rowsOf, blockOf, valueOf, outcomeOf, answered, cases, valueAnswer}
-use Rattle.grid.specs.Nodes.{AtIndex, stored, FiniteValues, Fits, NodeLaws, Long, Sized}
+use Rattle.grid.specs.Nodes.{AtIndex, stored, FiniteValues, Fits}
+use Rattle.grid.proofs.Premises.{NodeLaws, Long, Sized}
 
 -- ---- an index within every axis is stored within the values
 abbrev pub Within : List ℕ → List ℕ → Type 0

@@ -1,4 +1,5 @@
 -- Laws of a grid over a list of axes.
+pub mod Premises
 pub mod Sizes
 pub mod AtNodes
 pub mod OfBlocks

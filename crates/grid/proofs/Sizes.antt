@@ -8,7 +8,7 @@ use Rattle.multicubic.specs.declared.AxesLength.{AxesLength}
 use Rattle.multicubic.specs.Grid.{product}
 use Rattle.multicubic.proofs.Accepted.{Passed}
 use Rattle.grid.specs.Query.{Grid, gridCounts}
-use Rattle.grid.specs.Nodes.{Long, Sized}
+use Rattle.grid.proofs.Premises.{Long, Sized}
 
 pub all-long : (cs : List ℕ) → ((j : ℕ) → j < length cs → 4 ≤ getD cs j 0) → Long cs
 all-long [] h = tt

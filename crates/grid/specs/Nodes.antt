@@ -1,18 +1,15 @@
 -- 01, "Nodes and blocks (demand 3)", over a list of axes.
-use Prim.Native.Nat.{ℕ, zero, suc, _≤_, _<_}
+use Prim.Native.Nat.{ℕ, suc, _<_}
 use mathlib.Core.Path.{_≡_}
 use mathlib.Core.List.{List, [], _∷_}
 use lib.Dec.{T}
-use lib.IntN.{ℤ}
 use lib.ListN.{length, getD}
 use lib.Ieee.{Float, nan, Format, eq, fits}
 use lib.Ieee.Scale.{finite}
-use Rattle.multicubic.specs.Grid.{product}
 use Rattle.multicubic.specs.Place.{Placed}
-use Rattle.multicubic.specs.Nodes.{AtNode}
 use Rattle.reduction.specs.Value.{stridesOf, valueAt}
 use Rattle.reduction.specs.Nodes.{InBlock}
-use Rattle.grid.specs.Query.{GridAxis, Grid, countsOf, gridCounts, blockOf}
+use Rattle.grid.specs.Query.{GridAxis, Grid, gridCounts, blockOf}
 
 -- of every member of a list
 abbrev pub All : {A : Type 0} → (A → Type 0) → List A → Type 0
@@ -37,21 +34,6 @@ FiniteValues vals = (k : ℕ) → k < length vals → T (finite (getD vals k nan
 -- typing: the format holds the values, and the query's coordinates
 abbrev pub Fits : Format → List Float → Type 0
 Fits f vals = (k : ℕ) → k < length vals → T (fits f (getD vals k nan))
-
--- what an axis within its kind's premises has: at each node, the row that is one at the node's place
-abbrev pub NodeLaw : Format → GridAxis → Type 0
-NodeLaw f g = (i : ℕ) → i < g .count → (x : Float) → T (fits f x) → T (eq x (g .node i)) → (l : ℤ) × AtNode (g .count) l i (g .outcome x)
-
-abbrev pub NodeLaws : Format → List GridAxis → Type 0
-NodeLaws f gs = All (NodeLaw f) gs
-
--- what checks 3 and 4 leave: four entries or more on each axis, and as many values as the product of counts
-abbrev pub Long : List ℕ → Type 0
-Long counts = All (λ c. 4 ≤ c) counts
-
-pub record Sized (g : Grid) : Type 0 where
-  pub long : Long (gridCounts g)
-  pub size : length (g .vals) ≡ product (gridCounts g)
 
 -- two tables hold the same bits throughout the block at the places
 abbrev pub SameBlock : List ℕ → List Placed → List Float → List Float → Type 0

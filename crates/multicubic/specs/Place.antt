@@ -8,6 +8,8 @@ use lib.Ieee.{Float}
 use Rattle.multicubic.specs.declared.Saturation.{Saturation}
 use Rattle.multicubic.specs.declared.Saturation.the-variants.{None, InsideLow, OutsideLow, InsideHigh, OutsideHigh}
 use Rattle.multicubic.specs.declared.Place.{Place}
+use Rattle.multicubic.specs.declared.Loc.{Loc}
+use Rattle.multicubic.specs.declared.Loc.the-variants.{At, Unplaceable}
 use Rattle.multicubic.specs.declared.EdgeMode.{EdgeMode}
 use Rattle.multicubic.specs.declared.EdgeMode.the-variants.{Cubic, Straight}
 
@@ -41,3 +43,7 @@ pub record Placed : Type 0 where
 pub data AxisOutcome : Type 0 where
   unplaceable : AxisOutcome
   placed : Placed → AxisOutcome
+
+abbrev pub outcomeAt : (Place → List Float) → (Place → List Float) → Loc → AxisOutcome
+outcomeAt weights derivatives Unplaceable = unplaceable
+outcomeAt weights derivatives (At p) = placed (record { place = p; weights = weights p; derivatives = derivatives p })

@@ -14,7 +14,8 @@ use Rattle.multicubic.specs.Grid.{sum}
 use Rattle.multicubic.specs.Place.{straightOf}
 use Rattle.rectilinear_order.specs.Grid.{axesOf}
 use Rattle.rectilinear_axis.proofs.AtNodes.{at-node}
-use Rattle.grid.specs.Nodes.{NodeLaws, Long, Fits}
+use Rattle.grid.specs.Nodes.{Fits}
+use Rattle.grid.proofs.Premises.{NodeLaws, Long}
 use Rattle.grid.proofs.Sizes.{all-long}
 use Rattle.rectilinear.specs.Grid.{gridAxes, gridOf, AllPremises}
 use Rattle.rectilinear.proofs.Sizes.{part-length, rest-length, passed, joined-length}

@@ -16,7 +16,7 @@ use Rattle.multicubic.specs.Place.{straightOf}
 use Rattle.multicubic.proofs.Accepted.{then-accepted, Passed, accepted}
 use Rattle.rectilinear_order.specs.Grid.{axesOf}
 use Rattle.grid.specs.Query.{countsOf}
-use Rattle.grid.specs.Nodes.{Sized}
+use Rattle.grid.proofs.Premises.{Sized}
 use Rattle.grid.proofs.Sizes.{sized-by}
 use Rattle.rectilinear.specs.Grid.{checksOf, gridAxes, gridOf}
 

@@ -18,11 +18,11 @@ use Rattle.multicubic.specs.declared.Loc.the-variants.{At}
 use Rattle.multicubic.specs.declared.Saturation.{Saturation}
 use Rattle.multicubic.specs.declared.Saturation.the-variants.{None, InsideLow, OutsideLow, InsideHigh}
 use Rattle.multicubic.specs.declared.Place.{Place}
-use Rattle.multicubic.specs.Place.{placeOf}
+use Rattle.multicubic.specs.Place.{placeOf, outcomeAt}
 use Rattle.multicubic.specs.Nodes.{OneAt, AtNode}
 use Rattle.multicubic.proofs.Places.{outside-low, inside-low, interior, inside-high}
-use Rattle.rectilinear_axis.specs.Weights.{weightsOf, derivativesOf}
-use Rattle.rectilinear_axis.specs.Nodes.{Premises, cellOf, outcomeAt, outcomeOf}
+use Rattle.rectilinear_axis.specs.Weights.{weightsOf}
+use Rattle.rectilinear_axis.specs.Nodes.{Premises, cellOf, weightsAt, derivativesAt, outcomeOf}
 use Rattle.rectilinear_axis.proofs.Cell.{entries}
 use Rattle.rectilinear_axis.proofs.Blocks.{Held, Gap, first, second, mid, last}
 use Rattle.rectilinear_axis.proofs.Count.{entry, counted}
@@ -39,7 +39,7 @@ module _ (f : Format) (straight : Bool) (g : List Float) (four : 4 ≤ length g)
 
   -- the row at node i, were p its place
   abbrev Row : ℕ → Place → Type 0
-  Row i p = (p .origin ≤ i) × OneAt (i - p .origin) (weightsOf f (p .class) straight (cellOf g (p .origin)) x)
+  Row i p = (p .origin ≤ i) × OneAt (i - p .origin) (weightsAt f g straight x p)
 
   frame : (i o j : ℕ) (c : Saturation) → o + 4 ≤ length g → i ≡ o + j → placeAt i ≡ block o c
       → OneAt j (weightsOf f c straight (getD g o nan ∷ getD g (suc o) nan ∷ getD g (suc (suc o)) nan ∷ getD g (suc (suc (suc o))) nan ∷ []) x) → Row i (placeAt i)
@@ -83,10 +83,10 @@ module _ (f : Format) (straight : Bool) (g : List Float) (four : 4 ≤ length g)
       record {
         found = record {
           place = place;
-          weights = weightsOf f (place .class) straight (cellOf g (place .origin)) x;
-          derivatives = derivativesOf f (place .class) straight (cellOf g (place .origin)) x;
+          weights = weightsAt f g straight x place;
+          derivatives = derivativesAt f g straight x place;
         };
-        is = ap (λ (k : ℕ). outcomeAt f g straight x (At (placeAt k))) (counted f g four held gaps x p i I at);
+        is = ap (λ (k : ℕ). outcomeAt (weightsAt f g straight x) (derivativesAt f g straight x) (At (placeAt k))) (counted f g four held gaps x p i I at);
         place-is = refl;
         low = r .0;
         row = r .1;

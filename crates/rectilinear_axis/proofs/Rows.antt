@@ -26,8 +26,8 @@ each P a b c d (suc (suc (suc zero))) h = d
 each P a b c d (suc (suc (suc (suc k)))) h = absurd (omega arith)
 
 -- a zero at place k, unless k is j
-abbrev Cold : ℕ → List Float → ℕ → Type 0
-Cold j w k = (k ≡ j → ⊥) → IsZero (getD w k nan)
+abbrev ZeroUnless : ℕ → List Float → ℕ → Type 0
+ZeroUnless j w k = (k ≡ j → ⊥) → IsZero (getD w k nan)
 
 plus-zero : IsZero nought
 plus-zero = (false, refl)
@@ -41,10 +41,10 @@ null f z k p K = (mul-zero-left f z (getD k 0 nan) p (K .0 .0), mul-zero-left f 
 
 -- ---- the basis
 pub at-one : (f : Format) → OneAt 2 (hermiteBasis f one)
-at-one f = rw basis-one (record { inside = lit< tt; one-here = refl; zero-elsewhere = each (Cold 2 (nought ∷ nought ∷ one ∷ nought ∷ [])) (λ n. plus-zero) (λ n. plus-zero) (λ n. absurd (n refl)) (λ n. plus-zero) })
+at-one f = rw basis-one (record { inside = lit< tt; one-here = refl; zero-elsewhere = each (ZeroUnless 2 (nought ∷ nought ∷ one ∷ nought ∷ [])) (λ n. plus-zero) (λ n. plus-zero) (λ n. absurd (n refl)) (λ n. plus-zero) })
 
 pub at-zero : (f : Format) (t : Float) → IsZero t → OneAt 0 (hermiteBasis f t)
-at-zero f t z = rw (z .1, basis-zero) (record { inside = lit< tt; one-here = refl; zero-elsewhere = each (Cold 0 (one ∷ nought ∷ nought ∷ nought ∷ [])) (λ n. absurd (n refl)) (λ n. plus-zero) (λ n. plus-zero) (λ n. plus-zero) })
+at-zero f t z = rw (z .1, basis-zero) (record { inside = lit< tt; one-here = refl; zero-elsewhere = each (ZeroUnless 0 (one ∷ nought ∷ nought ∷ nought ∷ [])) (λ n. absurd (n refl)) (λ n. plus-zero) (λ n. plus-zero) (λ n. plus-zero) })
 
 zeros : (f : Format) (h : List Float) → OneAt 2 h → IsZero (getD h 0 nan) × IsZero (getD h 1 nan) × IsZero (getD h 3 nan)
 zeros f h b = (b .zero-elsewhere 0 (lit< tt) (λ e. omega arith), b .zero-elsewhere 1 (lit< tt) (λ e. omega arith), b .zero-elsewhere 3 (lit< tt) (λ e. omega arith))
@@ -59,7 +59,7 @@ interior-row f h k0 k1 b K0 K1 =
     record {
       inside = lit< tt;
       one-here = one-add f _ _ (one-add f _ _ (b .one-here) (m .2)) (n .1);
-      zero-elsewhere = each (Cold 2 (interior f h k0 k1)) (λ e. m .0) (λ e. add-zeros f _ _ (add-zeros f _ _ (z .0) (m .1)) (n .0)) (λ e. absurd (e refl)) (λ e. n .2);
+      zero-elsewhere = each (ZeroUnless 2 (interior f h k0 k1)) (λ e. m .0) (λ e. add-zeros f _ _ (add-zeros f _ _ (z .0) (m .1)) (n .0)) (λ e. absurd (e refl)) (λ e. n .2);
     }
 
 pub low-row-one : (f : Format) (h k : List Float) → OneAt 2 h → Small k → OneAt 0 (cubicLow f h k)
@@ -71,7 +71,7 @@ low-row-one f h k b K =
     record {
       inside = lit< tt;
       one-here = one-add f _ _ (one-add f _ _ (b .one-here) d) (n .0);
-      zero-elsewhere = each (Cold 0 (cubicLow f h k)) (λ e. absurd (e refl)) (λ e. add-zeros f _ _ (sub-zeros f _ _ (z .0) d) (n .1)) (λ e. n .2) (λ e. plus-zero);
+      zero-elsewhere = each (ZeroUnless 0 (cubicLow f h k)) (λ e. absurd (e refl)) (λ e. add-zeros f _ _ (sub-zeros f _ _ (z .0) d) (n .1)) (λ e. n .2) (λ e. plus-zero);
     }
 
 pub low-row-zero : (f : Format) (h k : List Float) → OneAt 0 h → Small k → OneAt 1 (cubicLow f h k)
@@ -85,7 +85,7 @@ low-row-zero f h k b K =
     record {
       inside = lit< tt;
       one-here = one-add f _ _ (one-sub f _ _ (b .one-here) d) (n .1);
-      zero-elsewhere = each (Cold 1 (cubicLow f h k)) (λ e. add-zeros f _ _ (add-zeros f _ _ z2 d) (n .0)) (λ e. absurd (e refl)) (λ e. n .2) (λ e. plus-zero);
+      zero-elsewhere = each (ZeroUnless 1 (cubicLow f h k)) (λ e. add-zeros f _ _ (add-zeros f _ _ z2 d) (n .0)) (λ e. absurd (e refl)) (λ e. n .2) (λ e. plus-zero);
     }
 
 pub high-row : (f : Format) (h k : List Float) → OneAt 2 h → Small k → OneAt 3 (cubicHigh f h k)
@@ -97,7 +97,7 @@ high-row f h k b K =
     record {
       inside = lit< tt;
       one-here = one-add f _ _ (one-add f _ _ (b .one-here) d) (n .2);
-      zero-elsewhere = each (Cold 3 (cubicHigh f h k)) (λ e. plus-zero) (λ e. n .0) (λ e. add-zeros f _ _ (sub-zeros f _ _ (z .0) d) (n .1)) (λ e. absurd (e refl));
+      zero-elsewhere = each (ZeroUnless 3 (cubicHigh f h k)) (λ e. plus-zero) (λ e. n .0) (λ e. add-zeros f _ _ (sub-zeros f _ _ (z .0) d) (n .1)) (λ e. absurd (e refl));
     }
 
 -- on the straight line, at the end point
@@ -111,5 +111,5 @@ line-row f s k z K =
     record {
       inside = lit< tt;
       one-here = one-add f _ _ refl (mul-zero-left f s _ z (a .0));
-      zero-elsewhere = each (Cold 0 (straightLow f s k)) (λ e. absurd (e refl)) (λ e. mul-zero-left f s _ z (b .0)) (λ e. n .2) (λ e. plus-zero);
+      zero-elsewhere = each (ZeroUnless 0 (straightLow f s k)) (λ e. absurd (e refl)) (λ e. mul-zero-left f s _ z (b .0)) (λ e. n .2) (λ e. plus-zero);
     }

@@ -6,9 +6,8 @@ use lib.IntN.{pos, negsuc}
 use lib.Dec.{T}
 use lib.ListN.{length, getD, take, drop}
 use lib.Ieee.{Float, nan, fin, Format, sub, le}
-use Rattle.multicubic.specs.declared.Loc.{Loc}
-use Rattle.multicubic.specs.declared.Loc.the-variants.{At, Unplaceable}
-use Rattle.multicubic.specs.Place.{AxisOutcome, unplaceable, placed}
+use Rattle.multicubic.specs.declared.Place.{Place}
+use Rattle.multicubic.specs.Place.{AxisOutcome, outcomeAt}
 use Rattle.rectilinear_axis.specs.Place.{locOf}
 use Rattle.rectilinear_axis.specs.Weights.{weightsOf, derivativesOf}
 
@@ -21,14 +20,13 @@ pub record Premises (f : Format) (g : List Float) : Type 0 where
 abbrev pub cellOf : List Float → ℕ → List Float
 cellOf g origin = take 4 (drop origin g)
 
--- the outcome of an axis for a query
-abbrev pub outcomeAt : Format → List Float → Bool → Float → Loc → AxisOutcome
-outcomeAt f g straight x Unplaceable = unplaceable
-outcomeAt f g straight x (At p) = placed (record {
-  place = p;
-  weights = weightsOf f (p .class) straight (cellOf g (p .origin)) x;
-  derivatives = derivativesOf f (p .class) straight (cellOf g (p .origin)) x;
-})
+-- the weights and derivative weights of a query at a place
+abbrev pub weightsAt : Format → List Float → Bool → Float → Place → List Float
+weightsAt f g straight x p = weightsOf f (p .class) straight (cellOf g (p .origin)) x
 
+abbrev pub derivativesAt : Format → List Float → Bool → Float → Place → List Float
+derivativesAt f g straight x p = derivativesOf f (p .class) straight (cellOf g (p .origin)) x
+
+-- the outcome of an axis for a query
 abbrev pub outcomeOf : Format → List Float → Bool → Float → AxisOutcome
-outcomeOf f g straight x = outcomeAt f g straight x (locOf g x)
+outcomeOf f g straight x = outcomeAt (weightsAt f g straight x) (derivativesAt f g straight x) (locOf g x)

@@ -15,7 +15,7 @@ use Rattle.multicubic.specs.Grid.{anyOver}
 use Rattle.multicubic.specs.Place.{straightOf}
 use Rattle.multicubic.proofs.Sizes.{or-false}
 use Rattle.regular_axis.proofs.AtNodes.{at-node}
-use Rattle.grid.specs.Nodes.{NodeLaws, Long}
+use Rattle.grid.proofs.Premises.{NodeLaws, Long}
 use Rattle.grid.proofs.Sizes.{all-long}
 use Rattle.regular.specs.Grid.{countsOf, gridAxes, gridOf, AllPremises}
 use Rattle.regular.proofs.Sizes.{counts-taken, passed}

@@ -12,7 +12,7 @@ use Rattle.multicubic.specs.declared.Outcome.the-variants.{Accepted}
 use Rattle.multicubic.specs.Place.{straightOf}
 use Rattle.multicubic.proofs.Accepted.{then-accepted, Passed, accepted}
 use Rattle.grid.specs.Query as Query
-use Rattle.grid.specs.Nodes.{Sized}
+use Rattle.grid.proofs.Premises.{Sized}
 use Rattle.grid.proofs.Sizes.{sized-by}
 use Rattle.regular.specs.Grid.{countsOf, checksOf, gridAxes, gridOf}
 

@@ -18,12 +18,12 @@ use Rattle.ieee.proofs.Multiple.{Is, diff, is-zero, is-pos, is-neg}
 use Rattle.multicubic.specs.declared.Saturation.{Saturation}
 use Rattle.multicubic.specs.declared.Saturation.the-variants.{None, InsideLow, InsideHigh, OutsideHigh}
 use Rattle.multicubic.specs.declared.Loc.the-variants.{At}
-use Rattle.multicubic.specs.Place.{placeOf}
+use Rattle.multicubic.specs.Place.{placeOf, outcomeAt}
 use Rattle.multicubic.specs.Nodes.{OneAt, AtNode}
 use Rattle.multicubic.proofs.Places.{inside-low, interior, inside-high, outside-high}
 use Rattle.regular_axis.specs.Place.{quotient}
 use Rattle.regular_axis.specs.Weights.{node, tOf, weightsOf, derivativesOf}
-use Rattle.regular_axis.specs.Nodes.{Premises, outcomeAt, outcomeOf}
+use Rattle.regular_axis.specs.Nodes.{Premises, weightsAt, derivativesAt, outcomeOf}
 use Rattle.regular_axis.proofs.Floor.{less-one, loc-whole}
 use Rattle.regular_axis.proofs.Rows.{row-low, row-mid, row-high, row-top}
 use Rattle.regular_axis.proofs.Exact.{is-finite, node-is, quotient-is, t-is}
@@ -67,7 +67,7 @@ module _ (f : Format) (straight : Bool) (start step : Float) (P : Premises start
           weights = weightsOf f c straight (tOf f start step o x);
           derivatives = derivativesOf f c straight (tOf f start step o x) (div f one step);
         };
-        is = ap (outcomeAt f start step straight x) (loc-whole n i (quotient f start step x) (omega arith) (quotient-is f start step P i x (omega arith) same) ∙ ap At place);
+        is = ap (outcomeAt (weightsAt f start step straight x) (derivativesAt f start step straight x)) (loc-whole n i (quotient f start step x) (omega arith) (quotient-is f start step P i x (omega arith) same) ∙ ap At place);
         place-is = sym place;
         low = omega arith;
         row = rw (← j-is, q) r;

@@ -2,13 +2,13 @@
 use Prim.Native.Nat.{ℕ, _*_, _^_, _≤_}
 use mathlib.Core.Path.{_≡_}
 use mathlib.Core.Bool.{Bool, false}
+use mathlib.Core.List.{List}
 use lib.IntN.{ℤ}
 use lib.Ieee.{Float, fin, Format, up, down, div}
 use lib.Ieee.Exact.{HasValue}
 use Rattle.ieee.specs.Numbers.{one}
-use Rattle.multicubic.specs.declared.Loc.{Loc}
-use Rattle.multicubic.specs.declared.Loc.the-variants.{At, Unplaceable}
-use Rattle.multicubic.specs.Place.{AxisOutcome, unplaceable, placed}
+use Rattle.multicubic.specs.declared.Place.{Place}
+use Rattle.multicubic.specs.Place.{AxisOutcome, outcomeAt}
 use Rattle.regular_axis.specs.Place.{locOf}
 use Rattle.regular_axis.specs.Weights.{tOf, weightsOf, derivativesOf}
 
@@ -23,16 +23,13 @@ pub record Premises (start step : Float) : Type 0 where
   pub near : steps ≤ 2 ^ 20
   pub start-is : HasValue start below-zero (steps * up power) (down power)
 
--- the outcome of an axis for a query
-abbrev pub outcomeAt : Format → Float → Float → Bool → Float → Loc → AxisOutcome
-outcomeAt f start step straight x Unplaceable = unplaceable
-outcomeAt f start step straight x (At p) =
-    let t = tOf f start step (p .origin) x in
-    placed (record {
-      place = p;
-      weights = weightsOf f (p .class) straight t;
-      derivatives = derivativesOf f (p .class) straight t (div f one step);
-    })
+-- the weights and derivative weights of a query at a place
+abbrev pub weightsAt : Format → Float → Float → Bool → Float → Place → List Float
+weightsAt f start step straight x p = weightsOf f (p .class) straight (tOf f start step (p .origin) x)
 
+abbrev pub derivativesAt : Format → Float → Float → Bool → Float → Place → List Float
+derivativesAt f start step straight x p = derivativesOf f (p .class) straight (tOf f start step (p .origin) x) (div f one step)
+
+-- the outcome of an axis for a query
 abbrev pub outcomeOf : Format → Float → Float → ℕ → Bool → Float → AxisOutcome
-outcomeOf f start step n straight x = outcomeAt f start step straight x (locOf f start step n x)
+outcomeOf f start step n straight x = outcomeAt (weightsAt f start step straight x) (derivativesAt f start step straight x) (locOf f start step n x)
