@@ -1,27 +1,26 @@
 -- Demand 3, nodes: on a grid whose axes have the node law, the value of a query at a node is the number stored there. The axis count is a
 -- parameter. Assumes nothing.
-use mathlib.Core.Path.{_≡_, refl, sym, ap, _∙_, subst}
+use mathlib.Core.Path.{_≡_, refl, sym, ap, subst}
 use mathlib.Core.List.{List, [], _∷_}
-use Prim.Native.Nat.{ℕ, zero, suc, _+_, _-_, _*_, _≤_, _<_, min}
-use native.Mathlib.Nat.{lt-of-lt-of-le, mul-le-mul-right, add-mul, one-mul}
+use Prim.Native.Nat.{ℕ, zero, suc, _+_, _-_, _*_, _≤_, _<_}
+use native.Mathlib.Nat.{mul-le-mul-right, add-mul, one-mul}
 use native.Mathlib.Omega.{arith}
 use mathlib.Core.Bool.{Bool, true, false}
 use lib.Dec.{T}
 use lib.IntN.{ℤ, pos, negsuc}
-use lib.ListN.{length, getD}
-use lib.Ieee.{Float, nan, Format, eq, fits}
+use lib.ListN.{length}
+use lib.Ieee.{Float, Format, eq, fits}
 use lib.Ieee.Bits.{is-true}
 use Rattle.ieee.proofs.Order.{eq-sym, eq-trans}
 use Rattle.ieee.specs.Numbers.{zero as nought}
 use Rattle.multicubic.specs.declared.Outcome.the-variants.{Accepted, Refused}
 use Rattle.multicubic.specs.declared.Answer.the-variants.{Value}
 use Rattle.multicubic.specs.Grid.{product, _then_}
-use Rattle.multicubic.specs.Place.{originOf, Placed, AxisOutcome}
-use Rattle.multicubic.specs.Nodes.{OneAt, AtNode}
-use Rattle.reduction.specs.Value.{stridesOf, offset, shifted, valueAt, block, reduceOf}
+use Rattle.multicubic.specs.Place.{originOf, Placed}
+use Rattle.reduction.specs.Value.{stridesOf, offset, shifted, valueAt, reduceOf}
 use Rattle.reduction.specs.Nodes.{OneAtEach, InBlock}
 use Rattle.reduction.proofs.Blocks.{Held, value-at-node}
-use Rattle.grid.specs.Query.{GridAxis, Grid, Found, places, located, find, countsOf, gridCounts, originsOf, rowsOf, blockOf, valueOf, outcomeOf, answered, cases, valueAnswer}
+use Rattle.grid.specs.Query.{GridAxis, Grid, places, located, find, countsOf, gridCounts, originsOf, rowsOf, blockOf, valueOf, answered, cases, valueAnswer}
 use Rattle.grid.specs.Nodes.{AtIndex, stored, FiniteValues, Fits}
 use Rattle.grid.proofs.Premises.{NodeLaws, Long, Sized}
 

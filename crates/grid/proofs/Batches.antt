@@ -160,19 +160,19 @@ abbrev noAxis : GridAxis
 noAxis = record { count = 0; outcome = λ x. unplaceable; node = λ i. nan }
 
 -- axis k's outcome, the axes counted from s
-abbrev pub outcomeAt : ℕ → List GridAxis → (ℕ → Float) → ℕ → AxisOutcome
-outcomeAt s gs query k = getD gs (k - s) noAxis .outcome (query k)
+abbrev pub outcomeOn : ℕ → List GridAxis → (ℕ → Float) → ℕ → AxisOutcome
+outcomeOn s gs query k = getD gs (k - s) noAxis .outcome (query k)
 
 pub record LowestAxis (s : ℕ) (gs : List GridAxis) (query : ℕ → Float) (a : ℕ) : Type 0 where
   pub from : s ≤ a
   pub inside : a < s + length gs
-  pub fails : outcomeAt s gs query a ≡ unplaceable
-  pub before : (k : ℕ) → s ≤ k → k < a → (p : Placed) × (outcomeAt s gs query k ≡ placed p)
+  pub fails : outcomeOn s gs query a ≡ unplaceable
+  pub before : (k : ℕ) → s ≤ k → k < a → (p : Placed) × (outcomeOn s gs query k ≡ placed p)
 
-here : (s : ℕ) (g : GridAxis) (gs : List GridAxis) (query : ℕ → Float) → outcomeAt s (g ∷ gs) query s ≡ g .outcome (query s)
+here : (s : ℕ) (g : GridAxis) (gs : List GridAxis) (query : ℕ → Float) → outcomeOn s (g ∷ gs) query s ≡ g .outcome (query s)
 here s g gs query = let z : s - s ≡ 0 = omega arith in ap (λ (i : ℕ). getD (g ∷ gs) i noAxis .outcome (query s)) z
 
-later : (s : ℕ) (g : GridAxis) (gs : List GridAxis) (query : ℕ → Float) (k : ℕ) → s < k → outcomeAt s (g ∷ gs) query k ≡ outcomeAt (suc s) gs query k
+later : (s : ℕ) (g : GridAxis) (gs : List GridAxis) (query : ℕ → Float) (k : ℕ) → s < k → outcomeOn s (g ∷ gs) query k ≡ outcomeOn (suc s) gs query k
 later s g gs query k h = let z : k - s ≡ suc (k - suc s) = omega arith in ap (λ (i : ℕ). getD (g ∷ gs) i noAxis .outcome (query k)) z
 
 -- a query without a place names the lowest such axis, and the lowest is named
@@ -204,7 +204,7 @@ lowest-find s (g ∷ gs) query a h = ⊎-elim first (second (lowest-find (suc s)
   where
     first : s ≡ a → find s (g ∷ gs) query ≡ unplaceableAt a
     first z =
-        let e : g .outcome (query s) ≡ unplaceable = sym (here s g gs query) ∙ ap (outcomeAt s (g ∷ gs) query) z ∙ h .fails in
+        let e : g .outcome (query s) ≡ unplaceable = sym (here s g gs query) ∙ ap (outcomeOn s (g ∷ gs) query) z ∙ h .fails in
         ap (λ (o : AxisOutcome). located s o (find (suc s) gs query)) e ∙ ap unplaceableAt z
 
     second : (LowestAxis (suc s) gs query a → find (suc s) gs query ≡ unplaceableAt a) → s < a → find s (g ∷ gs) query ≡ unplaceableAt a

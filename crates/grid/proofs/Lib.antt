@@ -1,6 +1,7 @@
 -- Laws of a grid over a list of axes.
 pub mod Premises
 pub mod Sizes
+pub mod Locating
 pub mod AtNodes
 pub mod OfBlocks
 pub mod Batches

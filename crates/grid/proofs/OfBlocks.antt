@@ -1,8 +1,7 @@
 -- Demand 3, blocks: tables that agree throughout a query's block give the same value and the same components. Assumes nothing.
-use mathlib.Core.Path.{_≡_, refl, sym, ap, _∙_, subst}
+use mathlib.Core.Path.{_≡_, refl, subst}
 use mathlib.Core.List.{List, [], _∷_}
 use Prim.Native.Nat.{ℕ, suc}
-use lib.ListN.{length}
 use lib.Ieee.{Float, Format}
 use Rattle.multicubic.specs.Place.{Placed}
 use Rattle.reduction.specs.Value.{stridesOf}

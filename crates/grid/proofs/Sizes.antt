@@ -1,12 +1,13 @@
--- A grid whose counts passed checks 1 to 4 is sized. Assumes nothing.
+-- What passing checks 1 to 4 says of a grid. Assumes nothing.
 use mathlib.Core.Path.{_≡_, sym, ap, _∙_, subst}
 use mathlib.Core.List.{List, [], _∷_}
 use Prim.Native.Nat.{ℕ, suc, _≤_, _<_}
 use native.Mathlib.Omega.{arith}
 use lib.ListN.{length, getD, take}
+use lib.Seq.{length-take-le, getD-take}
 use Rattle.multicubic.specs.declared.AxesLength.{AxesLength}
 use Rattle.multicubic.specs.Grid.{product}
-use Rattle.multicubic.proofs.Accepted.{Passed}
+use Rattle.multicubic.proofs.Passed.{Passed}
 use Rattle.grid.specs.Query.{Grid, gridCounts}
 use Rattle.grid.proofs.Premises.{Long, Sized}
 
@@ -19,3 +20,9 @@ sized-by g {n} {counts} p e = record {
   long = subst Long (sym e) (all-long (take n counts) (p .long));
   size = p .values-is ∙ ap product (sym e);
 }
+
+-- every count in use is 4 or more
+pub each-long : (n : ℕ) (counts : List ℕ) (values : ℕ) (axes : AxesLength) → Passed n counts values axes → length counts ≡ 4 → (i : ℕ) → i < n → 4 ≤ getD counts i 0
+each-long n counts values axes p four i h =
+    let few : n ≤ 4 = p .few in
+    subst (λ (k : ℕ). 4 ≤ k) (getD-take n counts i 0 h) (p .long i (subst (λ (k : ℕ). i < k) (sym (length-take-le n counts (omega arith))) h))

@@ -1,17 +1,18 @@
 -- One query on a grid: its places, its value and its gradient (01, "The place", "The value", "The gradient").
 use Prim.Native.Nat.{ℕ, suc}
+use mathlib.Core.Path.{_≡_}
 use mathlib.Core.List.{List, [], _∷_, _++_, map}
-use lib.ListN.{take}
-use lib.Ieee.{Float, Format}
+use lib.ListN.{getD, take}
+use lib.Ieee.{Float, nan, Format}
 use Rattle.ieee.specs.Numbers.{zero}
 use Rattle.multicubic.specs.declared.Outcome.{Outcome}
 use Rattle.multicubic.specs.declared.Outcome.the-variants.{Accepted, Refused}
 use Rattle.multicubic.specs.declared.Answer.{Answer}
 use Rattle.multicubic.specs.declared.Answer.the-variants as Ans
 use Rattle.multicubic.specs.declared.Place.{Place}
-use Rattle.multicubic.specs.declared.Saturation.the-variants.{None}
+use Rattle.multicubic.specs.declared.PlaceAnswer.{PlaceAnswer}
 use Rattle.multicubic.specs.Grid.{_then_}
-use Rattle.multicubic.specs.Place.{Placed, AxisOutcome, unplaceable, placed}
+use Rattle.multicubic.specs.Place.{nowhere, Placed, AxisOutcome, unplaceable, placed}
 use Rattle.reduction.specs.Value.{stridesOf, block, reduceOf}
 use Rattle.reduction.specs.Gradient.{componentOf}
 
@@ -77,9 +78,17 @@ pub record Grid : Type 0 where
 abbrev pub gridCounts : Grid → List ℕ
 gridCounts g = countsOf (g .axes)
 
--- A single query is query 0: the grid's refusal, or 8 with the lowest axis on which the query is unplaceable.
+-- 8 with the query's number and the lowest axis on which it is unplaceable
+abbrev pub foundOutcome : ℕ → Found → Outcome
+foundOutcome query found = cases found (λ axis. Refused 8 query axis) (λ ps. Accepted)
+
+-- a single query's coordinate on an axis
+abbrev pub at : List Float → ℕ → Float
+at x axis = getD x axis nan
+
+-- A single query is query 0: the grid's refusal, or 8.
 abbrev pub outcomeOf : Grid → (ℕ → Float) → Outcome
-outcomeOf g query = g .checked then cases (find 0 (g .axes) query) (λ axis. Refused 8 0 axis) (λ ps. Accepted)
+outcomeOf g query = g .checked then foundOutcome 0 (find 0 (g .axes) query)
 
 -- its value, or the refusal
 abbrev pub answered : Outcome → Float → Answer
@@ -102,5 +111,12 @@ gradientAnswer f g query = fourOf (outcomeOf g query) zero (cases (find 0 (g .ax
 abbrev pub placesOf : List Placed → List Place
 placesOf ps = map (λ (p : Placed). p .place) ps
 
+abbrev pub fourPlaces : Outcome → Found → List Place
+fourPlaces outcome found = fourOf outcome nowhere (cases found (λ axis. []) placesOf)
+
+-- what is told of query `number`, by the axes alone
+abbrev pub Located : ℕ → List GridAxis → (ℕ → Float) → PlaceAnswer → Type 0
+Located number gs query r = (r .outcome ≡ foundOutcome number (find 0 gs query)) × (r .places ≡ fourPlaces (foundOutcome number (find 0 gs query)) (find 0 gs query))
+
 abbrev pub placeAnswer : Grid → (ℕ → Float) → List Place
-placeAnswer g query = fourOf (outcomeOf g query) (record { origin = 0; class = None }) (cases (find 0 (g .axes) query) (λ axis. []) placesOf)
+placeAnswer g query = fourPlaces (outcomeOf g query) (find 0 (g .axes) query)

@@ -1,9 +1,9 @@
 -- The basis at one and at a zero of either sign, by computation in each format. Assumes nothing.
 use mathlib.Core.Path.{_≡_, refl}
 use mathlib.Core.Bool.{Bool, true, false}
-use mathlib.Core.List.{List, [], _∷_}
+use mathlib.Core.List.{[], _∷_}
 use lib.IntN.{pos}
-use lib.Ieee.{Float, fin, Format, binary32, binary64, add, sub, mul, neg, ofBits}
+use lib.Ieee.{fin, Format, binary32, binary64, add, sub, mul, neg, ofBits}
 use Rattle.ieee.specs.Numbers.{zero, one}
 use Rattle.interp_math.specs.Basis.{hermiteBasis}
 

@@ -3,14 +3,11 @@ use mathlib.Core.Path.{_≡_, refl, sym, ap, _∙_}
 use mathlib.Core.Bool.{Bool, true, false, not, _||_}
 use mathlib.Core.List.{List}
 use Prim.Native.Nat.{ℕ, _≤_, _<_}
-use native.Mathlib.Omega.{arith}
 use lib.Dec.{ltb, eqb}
 use lib.ListN.{take}
 use borrow.Author.Tests.{eq-eqb, ne-eqb, lt-ltb, le-ltb}
-use Rattle.multicubic.specs.declared.Outcome.{Outcome}
-use Rattle.multicubic.specs.declared.Outcome.the-variants.{Accepted, Refused}
+use Rattle.multicubic.specs.declared.Outcome.the-variants.{Refused}
 use Rattle.multicubic.specs.declared.AxesLength.{AxesLength}
-use Rattle.multicubic.specs.declared.AxesLength.the-variants.{Regular, Joined}
 use Rattle.multicubic.specs.Grid.{refuse, lowest, _then_, product, sum, anyOver, misjoined, sizeChecks}
 
 or-left : (a b : Bool) → a ≡ true → (a || b) ≡ true

@@ -2,5 +2,5 @@
 pub mod Places
 pub mod Sizes
 pub mod Checks
-pub mod Accepted
+pub mod Passed
 pub mod Examples

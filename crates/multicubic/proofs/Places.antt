@@ -1,11 +1,10 @@
 -- The place where L is k less 2: k is the number of entries below a query, or a floor plus 1. Assumes nothing.
-use mathlib.Core.Path.{_≡_, refl, sym, ap, _∙_}
-use Prim.Native.Nat.{ℕ, zero, suc, _+_, _-_, _≤_, _<_, min}
+use mathlib.Core.Path.{_≡_}
+use Prim.Native.Nat.{ℕ, _-_, _≤_, _<_, min}
 use native.Mathlib.Omega.{arith}
-use lib.IntN.{ℤ, pos, negsuc, _-ℤ_}
+use lib.IntN.{pos, _-ℤ_}
 use borrow.Author.Tests.{lt-ltb, le-ltb, eq-eqb, ne-eqb}
 use Rattle.multicubic.specs.declared.Saturation.the-variants.{None, InsideLow, OutsideLow, InsideHigh, OutsideHigh}
-use Rattle.multicubic.specs.declared.Place.{Place}
 use Rattle.multicubic.specs.Place.{originOf, classOf, placeOf}
 
 pub less-two : (k : ℕ) → 2 ≤ k → pos k -ℤ pos 2 ≡ pos (k - 2)

@@ -1,16 +1,15 @@
 -- One turn of each loop over the counts, by what is left of them. Assumes nothing.
-use mathlib.Core.Path.{_≡_, refl, sym, ap, _∙_, subst}
-use mathlib.Core.Bool.{Bool, true, false, cond, _||_}
+use mathlib.Core.Path.{_≡_, refl, sym}
+use mathlib.Core.Bool.{Bool, true, false, _||_}
 use mathlib.Core.List.{List, [], _∷_}
 use Prim.Native.Nat.{ℕ, zero, suc, _+_, _-_, _*_, _^_, _≤_, _<_}
-use native.Mathlib.Nat.{mul-assoc, mul-comm, mul-le-mul, pow-suc, le-trans, le-of-eq, lt-of-le-of-lt}
+use native.Mathlib.Nat.{mul-assoc, mul-le-mul, pow-suc, le-trans}
 use native.Mathlib.Numerals.{add-one}
 use native.Mathlib.Omega.{arith}
 use lib.Dec.{ltb, lit≤}
-use lib.ListN.{length, getD, take, drop, set, length-take}
-use lib.Seq.{slice, slice-cons, take-set-lt, drop-set-lt, getD-set-same}
-use borrow.Author.Tests.{ltb-true, ltb-false, lt-ltb, le-ltb}
-use Rattle.multicubic.specs.declared.Outcome.{Outcome}
+use lib.ListN.{length, getD, take}
+use lib.Seq.{slice, slice-cons}
+use borrow.Author.Tests.{ltb-false, lt-ltb, le-ltb}
 use Rattle.multicubic.specs.declared.Outcome.the-variants.{Refused}
 use Rattle.multicubic.specs.Grid.{product, sum, anyOver, lowest}
 

@@ -1,7 +1,7 @@
 -- 01, "The place (get_loc)": origin and class from L, for an axis of n entries. Each kind of axis has its own L.
 use Prim.Native.Nat.{ℕ, zero, suc, _-_, min}
 use mathlib.Core.Bool.{Bool, true, false, cond}
-use mathlib.Core.List.{List}
+use mathlib.Core.List.{List, [], _∷_}
 use lib.IntN.{ℤ, pos, negsuc}
 use lib.Dec.{ltb, eqb}
 use lib.Ieee.{Float}
@@ -27,6 +27,13 @@ classOf n (pos l) = cond (eqb l (n - 3)) InsideHigh (cond (ltb (n - 3) l) Outsid
 
 abbrev pub placeOf : ℕ → ℤ → Place
 placeOf n l = record { origin = originOf n l; class = classOf n l }
+
+-- what stands in place of a place: past the axis count, and on refusal
+abbrev pub nowhere : Place
+nowhere = record { origin = 0; class = None }
+
+abbrev pub fourNowhere : List Place
+fourNowhere = nowhere ∷ nowhere ∷ nowhere ∷ nowhere ∷ []
 
 -- `linearize_extrapolation`: the two Outside classes follow a straight line
 abbrev pub straightOf : EdgeMode → Bool

@@ -6,7 +6,7 @@ ghost use lib.Dec.{ltb};
 ghost use lib.IntN.{pos, _-ℤ_};
 ghost use lib.ListN.{take};
 ghost use Rattle.multicubic.specs.Grid.{product, sum, anyOver, lowest, misjoined, sizeChecks};
-ghost use Rattle.multicubic.specs.Place.{straightOf, placeOf};
+ghost use Rattle.multicubic.specs.Place.{fourNowhere, straightOf, placeOf};
 
 // Where a query lies on one axis.
 pub enum Saturation {
@@ -61,6 +61,12 @@ pub enum Outcome {
     },
 }
 
+// Where a query lies on every axis: origin 0 and None past the axis count, and on refusal.
+pub struct PlaceAnswer {
+    pub outcome: Outcome,
+    pub places: [Place; 4],
+}
+
 // The length of the joined axes of a rectilinear grid; a regular grid has none.
 pub enum AxesLength {
     Regular,
@@ -100,6 +106,17 @@ pub fn place_from(n: usize, k: usize) -> Place
         origin: n - 4,
         class: Saturation::OutsideHigh,
     }
+}
+
+// Origin 0, None, on four axes.
+pub fn nowhere() -> [Place; 4]
+    ensures { λ r. ⌜ r ≡ fourNowhere ⌝ }
+{
+    let place = Place {
+        origin: 0,
+        class: Saturation::None,
+    };
+    [place; 4]
 }
 
 // Whether the Outside classes follow a straight line: the Rust's `linearize_extrapolation`.

@@ -3,3 +3,4 @@ pub mod Sizes
 pub mod Laws
 pub mod Guarantees
 pub mod Examples
+pub mod Locating

@@ -1,23 +1,23 @@
 -- What checks 1 to 4 leave of a rectilinear grid that is accepted. Assumes nothing.
-use mathlib.Core.Path.{_≡_, refl, sym, subst}
+use mathlib.Core.Path.{_≡_, refl, sym}
 use mathlib.Core.Bool.{Bool}
 use mathlib.Core.List.{List, [], _∷_}
 use Prim.Native.Nat.{ℕ, _+_, _≤_, _<_}
 use native.Mathlib.Omega.{arith}
 use lib.ListN.{length, getD, take, drop, length-drop}
-use lib.Seq.{length-take-le, getD-take}
+use lib.Seq.{length-take-le}
 use lib.Ieee.{Float, Format}
 use borrow.Author.Tests.{eqb-true, not-false}
 use Rattle.multicubic.specs.declared.AxesLength.the-variants.{Joined}
 use Rattle.multicubic.specs.declared.EdgeMode.{EdgeMode}
 use Rattle.multicubic.specs.declared.Outcome.the-variants.{Accepted}
-use Rattle.multicubic.specs.Grid.{sum, sizeChecks}
+use Rattle.multicubic.specs.Grid.{sum, lowest, sizeChecks}
 use Rattle.multicubic.specs.Place.{straightOf}
-use Rattle.multicubic.proofs.Accepted.{then-accepted, Passed, accepted}
-use Rattle.rectilinear_order.specs.Grid.{axesOf}
+use Rattle.multicubic.proofs.Passed.{then-accepted, Passed, accepted}
+use Rattle.rectilinear_order.specs.Grid.{axesOf, notRising, disorder}
 use Rattle.grid.specs.Query.{countsOf}
 use Rattle.grid.proofs.Premises.{Sized}
-use Rattle.grid.proofs.Sizes.{sized-by}
+use Rattle.grid.proofs.Sizes.{sized-by, each-long}
 use Rattle.rectilinear.specs.Grid.{checksOf, gridAxes, gridOf}
 
 -- the first part has its count, and the rest are joined in what is left
@@ -48,5 +48,13 @@ sized f n counts joined vals mode e =
 pub orderable : (n : ℕ) (counts : List ℕ) (joined : List Float) (values : ℕ) → length counts ≡ 4 → sizeChecks n counts values (Joined (length joined)) ≡ Accepted → (n ≤ 4) × (sum (take n counts) ≡ length joined) × ((i : ℕ) → i < n → 4 ≤ getD counts i 0)
 orderable n counts joined values four e =
     let p = accepted n counts values (Joined (length joined)) e in
-    let few : n ≤ 4 = p .few in
-    (few, sym (eqb-true (length joined) (sum (take n counts)) (not-false _ (p .joined))), λ i h. subst (λ (k : ℕ). 4 ≤ k) (getD-take n counts i 0 h) (p .long i (subst (λ (k : ℕ). i < k) (sym (length-take-le n counts (omega arith))) h)))
+    (p .few, sym (eqb-true (length joined) (sum (take n counts)) (not-false _ (p .joined))), each-long n counts values (Joined (length joined)) p four)
+
+-- what `locate` asks, once the grid is taken
+pub locatable : (n : ℕ) (counts : List ℕ) (joined : List Float) (values : ℕ) → length counts ≡ 4 → checksOf n counts joined values ≡ Accepted
+    → (n ≤ 4) × (sum (take n counts) ≡ length joined) × ((i : ℕ) → i < n → 4 ≤ getD counts i 0) × (lowest 6 disorder 0 (axesOf (take n counts) joined) ≡ Accepted)
+locatable n counts joined values four e =
+    let t = then-accepted _ _ e in
+    let o = orderable n counts joined values four (t .0) in
+    let parts = axesOf (take n counts) joined in
+    (o .0, o .1, o .2, then-accepted (lowest 5 notRising 0 parts) (lowest 6 disorder 0 parts) (t .1) .1)

@@ -22,7 +22,7 @@ use Rattle.multicubic.specs.Place.{placeOf, outcomeAt}
 use Rattle.multicubic.specs.Nodes.{OneAt, AtNode}
 use Rattle.multicubic.proofs.Places.{outside-low, inside-low, interior, inside-high}
 use Rattle.rectilinear_axis.specs.Weights.{weightsOf}
-use Rattle.rectilinear_axis.specs.Nodes.{Premises, cellOf, weightsAt, derivativesAt, outcomeOf}
+use Rattle.rectilinear_axis.specs.Nodes.{Premises, weightsAt, derivativesAt, outcomeOf}
 use Rattle.rectilinear_axis.proofs.Cell.{entries}
 use Rattle.rectilinear_axis.proofs.Blocks.{Held, Gap, first, second, mid, last}
 use Rattle.rectilinear_axis.proofs.Count.{entry, counted}

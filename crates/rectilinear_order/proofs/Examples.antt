@@ -1,7 +1,7 @@
 -- Checks 5 and 6 on axes that are easily misread, by computation. Assumes nothing.
 use mathlib.Core.Path.{_≡_, refl}
 use mathlib.Core.Bool.{false}
-use mathlib.Core.List.{List, [], _∷_}
+use mathlib.Core.List.{[], _∷_}
 use lib.IntN.{pos}
 use lib.Ieee.{Float, nan, fin, isNan, lt}
 use Rattle.multicubic.specs.declared.Outcome.the-variants.{Accepted, Refused}

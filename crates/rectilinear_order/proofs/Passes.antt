@@ -1,7 +1,7 @@
 -- One turn of a pass over joined axes, for any fault and its number: what is left of the axes answers for all of them. Assumes nothing.
-use mathlib.Core.Path.{_≡_, refl, sym, _∙_}
+use mathlib.Core.Path.{_≡_, refl, sym, ap, _∙_}
 use mathlib.Core.Bool.{Bool, true, false, cond}
-use mathlib.Core.List.{List}
+use mathlib.Core.List.{List, _∷_}
 use Prim.Native.Nat.{ℕ, suc, _+_, _-_, _≤_, _<_}
 use native.Mathlib.Numerals.{add-one}
 use native.Mathlib.Omega.{arith}
@@ -10,6 +10,7 @@ use lib.Seq.{slice, slice-cons, slice-empty, drop-drop}
 use lib.Ieee.{Float}
 use Rattle.multicubic.specs.declared.Outcome.the-variants.{Accepted, Refused}
 use Rattle.multicubic.specs.Grid.{sum, lowest}
+use Rattle.multicubic.proofs.Passed.{no-fault}
 use Rattle.rectilinear_order.specs.Grid.{axesOf}
 
 -- before axis i, whose first entry stands at place at
@@ -39,15 +40,22 @@ module _ {number : ℕ} {fault : List Float → Bool} {n : ℕ} {counts : List �
     long k = simp (length-take, length-drop) (omega (arith, fits))
 
     -- the part of axis i, as the code takes it
-    turn : lowest number fault i (axesOf (slice i n counts) (drop at axes))
-        ≡ cond (fault (take (at + getD counts i 0 - at) (drop at axes))) (Refused number 0 i) (lowest number fault (suc i) (axesOf (slice (suc i) n counts) (drop (at + getD counts i 0) axes)))
-    turn =
+    pub parts : axesOf (slice i n counts) (drop at axes) ≡ take (at + getD counts i 0 - at) (drop at axes) ∷ axesOf (slice (suc i) n counts) (drop (at + getD counts i 0) axes)
+    parts =
         let k = l .held in
         let e : at + getD counts i 0 - at ≡ getD counts i 0 = omega arith in
         rw (e, slice-cons i n counts 0, drop-drop)
 
+    turn : lowest number fault i (axesOf (slice i n counts) (drop at axes))
+        ≡ cond (fault (take (at + getD counts i 0 - at) (drop at axes))) (Refused number 0 i) (lowest number fault (suc i) (axesOf (slice (suc i) n counts) (drop (at + getD counts i 0) axes)))
+    turn = ap (lowest number fault i) parts
+
     pub refused : fault (take (at + getD counts i 0 - at) (drop at axes)) ≡ true → Refused number 0 i ≡ lowest number fault 0 (axesOf (take n counts) axes)
     refused e = sym (l .same ∙ turn ∙ rw e)
+
+    -- no axis has the fault, so this one has none
+    pub sound : lowest number fault 0 (axesOf (take n counts) axes) ≡ Accepted → fault (take (at + getD counts i 0 - at) (drop at axes)) ≡ false
+    sound e = no-fault (fault (take (at + getD counts i 0 - at) (drop at axes))) number i _ (sym turn ∙ sym (l .same) ∙ e) .0
 
     pub next : fault (take (at + getD counts i 0 - at) (drop at axes)) ≡ false → Left number fault n counts axes (at + getD counts i 0) (i + 1)
     next e = record {

@@ -7,9 +7,9 @@ use Prim.Native.Nat.{ℕ, zero, suc, _<_}
 use native.Mathlib.Omega.{arith}
 use lib.Dec.{T, lit<}
 use lib.ListN.{length, getD, set, length-set}
-use lib.Ieee.{Float, nan, Format, add, mul, eq, fits}
+use lib.Ieee.{Float, nan, Format, mul, eq, fits}
 use lib.Ieee.Scale.{finite}
-use Rattle.ieee.specs.Numbers.{one, IsZero}
+use Rattle.ieee.specs.Numbers.{IsZero}
 use Rattle.ieee.proofs.ZeroOne.{Same, same-trans, same-finite, same-fits, mul-one-left, mul-zero-left, add-zeros, add-same-zero, add-zero-same}
 use Rattle.ieee.proofs.Cancel.{same→eq}
 use Rattle.interp_math.specs.Dot.{dot4}

@@ -3,15 +3,14 @@
 use mathlib.Core.Path.{_≡_, refl, sym, ap, _∙_, subst}
 use mathlib.Core.List.{List, [], _∷_, _++_}
 use Prim.Native.Nat.{ℕ, zero, suc, _+_, _*_, _≤_, _<_}
-use native.Mathlib.Nat.{add-zero, add-assoc, zero-mul, one-mul, add-mul}
+use native.Mathlib.Nat.{add-zero, zero-mul, one-mul, add-mul}
 use native.Mathlib.Omega.{arith}
 use lib.Dec.{lit<}
-use lib.ListN.{length, getD, take, set, length-set, length-take}
+use lib.ListN.{length, getD, take}
 use lib.Seq.{take-suc, length-take-le}
 use lib.Ieee.{Float, nan, Format}
 use Rattle.interp_math.specs.Dot.{dot4}
-use Rattle.reduction.specs.Value.{offset, shifted, valueAt, block, reach, from, four, reduceOf}
-use Rattle.reduction.specs.Gradient.{componentOf}
+use Rattle.reduction.specs.Value.{offset, shifted, block, reach, from, four, reduceOf}
 use Rattle.reduction.specs.Nodes.{InBlock}
 
 -- one step: the values after axis 0 is summed

@@ -1,5 +1,5 @@
 -- 01, "The value (dot4, interp_one)": where a value is stored, and the reduction of a block.
-use Prim.Native.Nat.{ℕ, zero, suc, _+_, _*_}
+use Prim.Native.Nat.{ℕ, _+_, _*_}
 use mathlib.Core.List.{List, [], _∷_}
 use lib.ListN.{getD}
 use lib.Ieee.{Float, nan, Format}

@@ -1,5 +1,6 @@
--- What the functions of `new` lean on. Assumes nothing.
-use mathlib.Core.Path.{_≡_, refl}
+-- Laws of the lists of axes that the functions of src/ lean on. Assumes nothing.
+use mathlib.Core.Path.{_≡_, refl, ap}
+use Prim.Native.Nat.{suc}
 use mathlib.Core.List.{List, [], _∷_}
 use native.Mathlib.Omega.{arith}
 use lib.ListN.{length, getD}
@@ -18,3 +19,7 @@ counts-four (a ∷ b ∷ []) h = absurd (omega arith)
 counts-four (a ∷ b ∷ c ∷ []) h = absurd (omega arith)
 counts-four (a ∷ b ∷ c ∷ d ∷ []) h = refl
 counts-four (a ∷ b ∷ c ∷ d ∷ e ∷ rest) h = absurd (omega arith)
+
+pub counts-length : (axes : List Axis) → length (countsOf axes) ≡ length axes
+counts-length [] = refl
+counts-length (a ∷ axes) = ap suc (counts-length axes)

@@ -4,3 +4,4 @@ pub mod Laws
 pub mod Guarantees
 pub mod Examples
 pub mod Calls
+pub mod Locating

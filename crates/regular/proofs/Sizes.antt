@@ -10,7 +10,7 @@ use Rattle.multicubic.specs.declared.AxesLength.the-variants.{Regular}
 use Rattle.multicubic.specs.declared.EdgeMode.{EdgeMode}
 use Rattle.multicubic.specs.declared.Outcome.the-variants.{Accepted}
 use Rattle.multicubic.specs.Place.{straightOf}
-use Rattle.multicubic.proofs.Accepted.{then-accepted, Passed, accepted}
+use Rattle.multicubic.proofs.Passed.{then-accepted, Passed, accepted}
 use Rattle.grid.specs.Query as Query
 use Rattle.grid.proofs.Premises.{Sized}
 use Rattle.grid.proofs.Sizes.{sized-by}

@@ -1,5 +1,5 @@
 -- `check_sizes` meets its contract. Assumes nothing.
-use mathlib.Core.Path.{_≡_, _∙_, sym, ap}
+use mathlib.Core.Path.{_∙_, sym, ap}
 use native.Mathlib.Omega.{arith}
 use Rattle.multicubic.specs.Grid.{misjoined}
 use Rattle.multicubic.proofs.Checks.{no-axes, many-axes, long-axis, large-product, other-length, other-join, lengths-match}

@@ -1,7 +1,7 @@
 -- `product_of` meets its contract. Assumes nothing.
 use borrow.Author.Needs.{needs}
-use Prim.Native.Nat.{_≤_, _<_, _+_, _-_, _*_, _^_}
-use mathlib.Core.Path.{_≡_, _∙_, sym, refl}
+use Prim.Native.Nat.{_≤_, _+_, _-_, _*_, _^_}
+use mathlib.Core.Path.{_≡_, _∙_, sym}
 use mathlib.Core.Bool.{false}
 use native.Mathlib.Omega.{arith}
 use lib.ListN.{length, take}

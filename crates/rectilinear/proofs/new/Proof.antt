@@ -1,3 +1,4 @@
+-- `new` meets its contract. Assumes nothing.
 use mathlib.Core.Path.{refl, sym, _∙_}
 use lib.ListN.{length}
 use Rattle.rectilinear.proofs.Sizes.{orderable}

@@ -2,8 +2,8 @@
 use Rattle.multicubic.proofs.Sizes.{each-within, grows, small}
 use Rattle.reduction.proofs.Offsets.{strides-here, stride-next}
 use borrow.Author.Needs.{needs}
-use Prim.Native.Nat.{_≤_, _<_, _+_, _-_, _*_, _^_}
-use mathlib.Core.Path.{_≡_, _∙_, sym, refl}
+use Prim.Native.Nat.{_≤_, _+_, _-_, _^_}
+use mathlib.Core.Path.{_≡_, refl}
 use mathlib.Core.Bool.{false}
 use native.Mathlib.Omega.{arith}
 use lib.ListN.{length, take}

@@ -1,3 +1,4 @@
+-- `counts_of` meets its contract. Assumes nothing.
 use Rattle.regular.proofs.Calls.{counts-four}
 use borrow.Author.Needs.{needs}
 use Rattle.regular.proofs.counts_of.Statement.{statement}

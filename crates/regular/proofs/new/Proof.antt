@@ -1,5 +1,6 @@
+-- `new` meets its contract. Assumes nothing.
 use mathlib.Core.Path.{refl, sym, _∙_}
-use Rattle.multicubic.proofs.Accepted.{accepted}
+use Rattle.multicubic.proofs.Passed.{accepted}
 use borrow.Author.Needs.{needs}
 use Rattle.regular.proofs.new.Statement.{statement}
 use Rattle.regular.proofs.new.Tie as tie
