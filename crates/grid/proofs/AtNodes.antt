@@ -56,7 +56,7 @@ block-within zero (o ∷ os) (c ∷ cs) js e r b = absurd (omega arith)
 block-within (suc n) (o ∷ os) (c ∷ cs) [] e r b = absurd b
 block-within (suc n) (o ∷ os) (c ∷ cs) (j ∷ js) e r b = (let h = r .0 in let k = b .0 in omega arith, block-within n os cs js (omega arith) (r .1) (b .1))
 
-origin-most : (n : ℕ) (l : ℤ) → originOf n l ≤ n - 4
+pub origin-most : (n : ℕ) (l : ℤ) → originOf n l ≤ n - 4
 unfolding originOf
 origin-most n (pos l) = omega arith
 origin-most n (negsuc k) = omega arith

@@ -1,7 +1,7 @@
 -- What a batch leaves in its buffer and what it answers: entry by entry, and the lowest query that has no place. Assumes nothing.
 use mathlib.Core.Path.{_≡_, refl, sym, ap, _∙_}
 use mathlib.Core.Logic.{_↔_, _≢_, _⊎_, inl, inr, ⊎-elim}
-use mathlib.Core.Bool.{Bool, true, false, not, _||_}
+use mathlib.Core.Bool.{not, _||_}
 use mathlib.Core.List.{List, [], _∷_}
 use Prim.Native.Nat.{ℕ, zero, suc, _+_, _-_, _*_, _/_, _%_, _≤_, _<_}
 use native.Mathlib.Nat.{eq-or-lt-of-le, add-comm, add-mod-right, add-mul-mod-self-right, mod-eq-of-lt, suc-mul, mul-le-mul-right}
@@ -13,9 +13,11 @@ use lib.Ieee.{Float, nan, Format}
 use borrow.Author.Tests.{eqb-true, not-false}
 use Rattle.multicubic.specs.declared.Outcome.{Outcome}
 use Rattle.multicubic.specs.declared.Outcome.the-variants.{Accepted, Refused}
-use Rattle.multicubic.specs.Grid.{refuse, _then_}
+use Rattle.multicubic.specs.Grid.{_then_}
 use Rattle.multicubic.specs.Place.{Placed, AxisOutcome, unplaceable, placed}
-use Rattle.grid.specs.Query.{GridAxis, Grid, Found, unplaceableAt, places, located, gridCounts, find, valueOf, componentsFrom, componentsOf}
+use Rattle.multicubic.proofs.Sizes.{or-false}
+use Rattle.multicubic.proofs.Passed.{then-accepted, refuse-accepted}
+use Rattle.grid.specs.Query.{GridAxis, noAxis, outcome, Grid, Found, unplaceableAt, places, located, gridCounts, find, valueOf, componentsFrom, componentsOf}
 use Rattle.grid.specs.Batch.{foundAt, checkBatch, outcomeFrom, runFrom, bufferOf, putValue, putColumns, putGradient, valueChecks, gradientChecks, interpOutcome, interpBuffer, gradOutcome, gradBuffer}
 
 -- ---- a run over any queries and any write
@@ -155,13 +157,9 @@ module _ (found : ℕ → Found) where
       go (Refused number j a) r = inr (j, a, refused-lowest (suc i) number j a r .1)
 
 -- ---- the axes name the lowest without a place
--- past the axes; nothing is said of it
-abbrev noAxis : GridAxis
-noAxis = record { count = 0; outcome = λ x. unplaceable; node = λ i. nan }
-
 -- axis k's outcome, the axes counted from s
 abbrev pub outcomeOn : ℕ → List GridAxis → (ℕ → Float) → ℕ → AxisOutcome
-outcomeOn s gs query k = getD gs (k - s) noAxis .outcome (query k)
+outcomeOn s gs query k = outcome (getD gs (k - s) noAxis) (query k)
 
 pub record LowestAxis (s : ℕ) (gs : List GridAxis) (query : ℕ → Float) (a : ℕ) : Type 0 where
   pub from : s ≤ a
@@ -169,18 +167,18 @@ pub record LowestAxis (s : ℕ) (gs : List GridAxis) (query : ℕ → Float) (a 
   pub fails : outcomeOn s gs query a ≡ unplaceable
   pub before : (k : ℕ) → s ≤ k → k < a → (p : Placed) × (outcomeOn s gs query k ≡ placed p)
 
-here : (s : ℕ) (g : GridAxis) (gs : List GridAxis) (query : ℕ → Float) → outcomeOn s (g ∷ gs) query s ≡ g .outcome (query s)
-here s g gs query = let z : s - s ≡ 0 = omega arith in ap (λ (i : ℕ). getD (g ∷ gs) i noAxis .outcome (query s)) z
+here : (s : ℕ) (g : GridAxis) (gs : List GridAxis) (query : ℕ → Float) → outcomeOn s (g ∷ gs) query s ≡ outcome g (query s)
+here s g gs query = let z : s - s ≡ 0 = omega arith in ap (λ (i : ℕ). outcome (getD (g ∷ gs) i noAxis) (query s)) z
 
 later : (s : ℕ) (g : GridAxis) (gs : List GridAxis) (query : ℕ → Float) (k : ℕ) → s < k → outcomeOn s (g ∷ gs) query k ≡ outcomeOn (suc s) gs query k
-later s g gs query k h = let z : k - s ≡ suc (k - suc s) = omega arith in ap (λ (i : ℕ). getD (g ∷ gs) i noAxis .outcome (query k)) z
+later s g gs query k h = let z : k - s ≡ suc (k - suc s) = omega arith in ap (λ (i : ℕ). outcome (getD (g ∷ gs) i noAxis) (query k)) z
 
 -- a query without a place names the lowest such axis, and the lowest is named
 pub find-lowest : (s : ℕ) (gs : List GridAxis) (query : ℕ → Float) (a : ℕ) → find s gs query ≡ unplaceableAt a → LowestAxis s gs query a
 find-lowest s [] query a r = absurd (let y : _≡_ {A = ℕ} 0 1 = cc in omega arith)
-find-lowest s (g ∷ gs) query a r = go (g .outcome (query s)) refl (find (suc s) gs query) refl (find-lowest (suc s) gs query) r
+find-lowest s (g ∷ gs) query a r = go (outcome g (query s)) refl (find (suc s) gs query) refl (find-lowest (suc s) gs query) r
   where
-    go : (o : AxisOutcome) → g .outcome (query s) ≡ o → (f : Found) → find (suc s) gs query ≡ f → ((b : ℕ) → find (suc s) gs query ≡ unplaceableAt b → LowestAxis (suc s) gs query b) → located s o f ≡ unplaceableAt a → LowestAxis s (g ∷ gs) query a
+    go : (o : AxisOutcome) → outcome g (query s) ≡ o → (f : Found) → find (suc s) gs query ≡ f → ((b : ℕ) → find (suc s) gs query ≡ unplaceableAt b → LowestAxis (suc s) gs query b) → located s o f ≡ unplaceableAt a → LowestAxis s (g ∷ gs) query a
     go unplaceable e f q rec r =
         let z : s ≡ a = cc in
         record { from = omega arith; inside = omega arith; fails = rw (sym z) (here s g gs query ∙ e); before = λ k h l. absurd (omega arith) }
@@ -204,13 +202,13 @@ lowest-find s (g ∷ gs) query a h = ⊎-elim first (second (lowest-find (suc s)
   where
     first : s ≡ a → find s (g ∷ gs) query ≡ unplaceableAt a
     first z =
-        let e : g .outcome (query s) ≡ unplaceable = sym (here s g gs query) ∙ ap (outcomeOn s (g ∷ gs) query) z ∙ h .fails in
+        let e : outcome g (query s) ≡ unplaceable = sym (here s g gs query) ∙ ap (outcomeOn s (g ∷ gs) query) z ∙ h .fails in
         ap (λ (o : AxisOutcome). located s o (find (suc s) gs query)) e ∙ ap unplaceableAt z
 
     second : (LowestAxis (suc s) gs query a → find (suc s) gs query ≡ unplaceableAt a) → s < a → find s (g ∷ gs) query ≡ unplaceableAt a
     second rec l =
         let v = h .before s (omega arith) l in
-        let e : g .outcome (query s) ≡ placed (v .0) = sym (here s g gs query) ∙ v .1 in
+        let e : outcome g (query s) ≡ placed (v .0) = sym (here s g gs query) ∙ v .1 in
         let r : find (suc s) gs query ≡ unplaceableAt a =
         rec (record {
           from = l;
@@ -223,7 +221,7 @@ lowest-find s (g ∷ gs) query a h = ⊎-elim first (second (lowest-find (suc s)
 -- places on every axis: one for each of them
 pub found-length : (s : ℕ) (gs : List GridAxis) (query : ℕ → Float) (ps : List Placed) → find s gs query ≡ places ps → length ps ≡ length gs
 found-length s [] query ps r = let z : [] ≡ ps = cc in sym (ap length z)
-found-length s (g ∷ gs) query ps r = go (g .outcome (query s)) (find (suc s) gs query) (found-length (suc s) gs query) r
+found-length s (g ∷ gs) query ps r = go (outcome g (query s)) (find (suc s) gs query) (found-length (suc s) gs query) r
   where
     go : (o : AxisOutcome) (f : Found) → ((qs : List Placed) → f ≡ places qs → length qs ≡ length gs) → located s o f ≡ places ps → length ps ≡ suc (length gs)
     go unplaceable f rec r = absurd (let y : _≡_ {A = ℕ} 0 1 = cc in omega arith)
@@ -267,7 +265,7 @@ module _ (c : ℕ) where
       rw z (columns-own p xs (at + c) (set b at x) d (omega arith) (omega (arith, length-set b at x)))
 
 module _ (f : Format) (counts : List ℕ) (vals : List Float) where
-  components-length : (ps : List Placed) (d : ℕ) (rest : List Placed) → length (componentsFrom f counts vals ps d rest) ≡ length rest
+  pub components-length : (ps : List Placed) (d : ℕ) (rest : List Placed) → length (componentsFrom f counts vals ps d rest) ≡ length rest
   components-length ps d [] = refl
   components-length ps d (p ∷ rest) = ap suc (components-length ps (suc d) rest)
 
@@ -307,24 +305,12 @@ module _ (checks : Outcome) where
       go Accepted = e
       go (Refused number query axis) = refl
 
-  -- the buffer's length, where the check before the queries passes
-  entries-checked : (n c queries entries buffer : ℕ) → (checks then checkBatch n c queries entries buffer) ≡ Accepted → buffer ≡ entries
-  entries-checked n c queries entries buffer e =
-      let over = ltb 1048576 c || not (eqb queries (n * c)) in
-      let wrong = not (eqb buffer entries) in
-      eqb-true buffer entries (not-false (eqb buffer entries) (last over wrong (refuse-not (over || wrong) (second checks e))))
-    where
-      second : (o : Outcome) → (o then checkBatch n c queries entries buffer) ≡ Accepted → checkBatch n c queries entries buffer ≡ Accepted
-      second Accepted e = e
-      second (Refused number query axis) e = absurd (let y : _≡_ {A = ℕ} 0 1 = cc in omega arith)
-
-      refuse-not : (fault : Bool) → refuse fault 7 ≡ Accepted → fault ≡ false
-      refuse-not false e = refl
-      refuse-not true e = absurd (let y : _≡_ {A = ℕ} 0 1 = cc in omega arith)
-
-      last : (a b : Bool) → (a || b) ≡ false → b ≡ false
-      last false b e = e
-      last true b e = absurd (let y : _≡_ {A = ℕ} 0 1 = cc in omega arith)
+  -- the lengths, where check 7 passes
+  pub lengths-checked : (n c queries entries buffer : ℕ) → (checks then checkBatch n c queries entries buffer) ≡ Accepted → (queries ≡ n * c) × (buffer ≡ entries)
+  lengths-checked n c queries entries buffer e =
+      let two = or-false (ltb 1048576 c || not (eqb queries (n * c))) (not (eqb buffer entries)) (refuse-accepted _ 7 (then-accepted checks (checkBatch n c queries entries buffer) e .1)) in
+      let one = or-false (ltb 1048576 c) (not (eqb queries (n * c))) (two .0) in
+      (eqb-true queries (n * c) (not-false _ (one .1)), eqb-true buffer entries (not-false _ (two .1)))
 
 module _ (f : Format) (g : Grid) (queries buffer : List Float) where
   -- what the axes give for each query of either call
@@ -366,6 +352,9 @@ module _ (f : Format) (g : Grid) (queries buffer : List Float) where
     pub interp-answers : interpOutcome f g queries buffer ≡ outcomeFrom valueFound 0 (length buffer)
     interp-answers = accepted-first (valueChecks f g queries buffer) _ checked
 
+    pub interp-runs : interpBuffer f g queries buffer ≡ runFrom valueFound (putValue f (gridCounts g) (g .vals)) 0 (length buffer) buffer
+    interp-runs = accepted-buffer (valueChecks f g queries buffer) buffer _ checked
+
     pub interp-lowest : (j a : ℕ) → (interpOutcome f g queries buffer ≡ Refused 8 j a) ↔ Lowest valueFound (length buffer) j a
     interp-lowest j a = (λ r. refused-lowest valueFound (length buffer) 8 j a (sym interp-answers ∙ r) .1, λ h. interp-answers ∙ lowest-refused valueFound (length buffer) j a h)
 
@@ -404,7 +393,7 @@ module _ (f : Format) (g : Grid) (queries buffer : List Float) where
           ∙ holds gradientFound (putGradient f (gridCounts g) (g .vals) gradientCount) gradientCount (g .axis-count) (g .axis-count * gradientCount) i (d * gradientCount + i)
           (λ qs. getD (componentsOf f (gridCounts g) (g .vals) qs) d nan) (gradient-entry f (gridCounts g) (g .vals) gradientCount (g .axis-count) i d h k)
           (λ j qs q. found-length 0 (g .axes) _ qs q ∙ counted) buffer
-          (entries-checked (g .checked) (g .axis-count) gradientCount (length queries) (g .axis-count * gradientCount) (length buffer) checked) h all ps p
+          (lengths-checked (g .checked) (g .axis-count) gradientCount (length queries) (g .axis-count * gradientCount) (length buffer) checked .1) h all ps p
 
       pub grad-keeps : (j a : ℕ) → j ≤ i → gradientFound j ≡ unplaceableAt a → getD (gradBuffer f g queries buffer) (d * gradientCount + i) nan ≡ getD buffer (d * gradientCount + i) nan
       grad-keeps j a l u =

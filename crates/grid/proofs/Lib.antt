@@ -1,9 +1,12 @@
 -- Laws of a grid over a list of axes.
 pub mod Premises
 pub mod Sizes
+pub mod Checks
 pub mod Locating
 pub mod AtNodes
 pub mod OfBlocks
 pub mod Batches
+pub mod Evaluating
+pub mod Running
 pub mod InBatches
 pub mod Decide

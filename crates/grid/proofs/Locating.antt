@@ -1,26 +1,30 @@
 -- The axes looked through one after the other, as the code does it: what stands after the first i of them. Assumes nothing.
-use mathlib.Core.Path.{_≡_, refl, ap, _∙_}
+use mathlib.Core.Path.{_≡_, refl, sym, ap, _∙_}
 use mathlib.Core.List.{List, [], _∷_, _++_}
-use Prim.Native.Nat.{ℕ, suc, _<_}
+use Prim.Native.Nat.{ℕ, suc, _+_, _<_}
+use native.Mathlib.Numerals.{add-one}
 use native.Mathlib.Omega.{arith}
-use lib.ListN.{length, take, set}
+use lib.ListN.{length, getD, take, drop, set, length-map}
+use lib.Seq.{drop-cons, drop-length}
 use lib.Ieee.{Float}
 use Rattle.multicubic.specs.declared.Outcome.the-variants.{Accepted, Refused}
+use Rattle.multicubic.specs.declared.Loc.the-variants.{At, Unplaceable}
 use Rattle.multicubic.specs.declared.Place.{Place}
 use Rattle.multicubic.specs.declared.PlaceAnswer.{PlaceAnswer}
-use Rattle.multicubic.specs.Place.{fourNowhere, Placed, unplaceable, placed}
-use Rattle.grid.specs.Query.{GridAxis, Grid, Found, unplaceableAt, places, located, find, foundOutcome, outcomeOf, placesOf, fourPlaces, Located, placeAnswer}
+use Rattle.multicubic.specs.Place.{nowhere, fourNowhere, Placed, placed}
+use Rattle.grid.specs.Query.{GridAxis, noAxis, Grid, Found, unplaceableAt, places, located, find, outcomeOf, placesOf, placeAnswer}
+use Rattle.grid.specs.Internal.{Located}
 
 -- the places ps before those that are found later
 abbrev after : List Placed → Found → Found
 after ps (unplaceableAt axis) = unplaceableAt axis
 after ps (places qs) = places (ps ++ qs)
 
--- the first i axes have placed the query at ps; the rest is still to be looked through
-pub record SoFar (whole : Found) (i : ℕ) (rest : List GridAxis) (query : ℕ → Float) (kept : List Place) : Type 0 where
+-- the first i axes have placed the query at ps; the others are still to be looked through
+pub record SoFar (gs : List GridAxis) (query : ℕ → Float) (i : ℕ) (kept : List Place) : Type 0 where
   pub ps : List Placed
   pub many : length ps ≡ i
-  pub is : whole ≡ after ps (find i rest query)
+  pub is : find 0 gs query ≡ after ps (find i (drop i gs) query)
   pub kept-is : kept ≡ take 4 (placesOf ps ++ fourNowhere)
 
 after-none : (r : Found) → r ≡ after [] r
@@ -43,32 +47,50 @@ after-one : (axis : ℕ) (ps : List Placed) (p : Placed) (r : Found) → after p
 after-one axis ps p (unplaceableAt later) = refl
 after-one axis ps p (places qs) = ap places (append-one ps qs p)
 
-put : (ps : List Placed) (p : Placed) → length ps < 4 → set (take 4 (placesOf ps ++ fourNowhere)) (length ps) (p .place) ≡ take 4 (placesOf (ps ++ (p ∷ [])) ++ fourNowhere)
-put [] p h = refl
-put (a ∷ []) p h = refl
-put (a ∷ b ∷ []) p h = refl
-put (a ∷ b ∷ c ∷ []) p h = refl
-put (a ∷ b ∷ c ∷ d ∷ rest) p h = absurd (omega arith)
+-- one more of four, with others in place of what is missing
+pub put-four : {A : Type 0} (other : A) (xs : List A) (x : A) (k : ℕ) → length xs ≡ k → k < 4 → set (take 4 (xs ++ (other ∷ other ∷ other ∷ other ∷ []))) k x ≡ take 4 ((xs ++ (x ∷ [])) ++ (other ∷ other ∷ other ∷ other ∷ []))
+put-four {A = A} other xs x k e h = rw (← e) (go xs (omega arith))
+  where
+    go : (ys : List A) → length ys < 4 → set (take 4 (ys ++ (other ∷ other ∷ other ∷ other ∷ []))) (length ys) x ≡ take 4 ((ys ++ (x ∷ [])) ++ (other ∷ other ∷ other ∷ other ∷ []))
+    go [] h = refl
+    go (a ∷ []) h = refl
+    go (a ∷ b ∷ []) h = refl
+    go (a ∷ b ∷ c ∷ []) h = refl
+    go (a ∷ b ∷ c ∷ d ∷ rest) h = absurd (omega arith)
 
-pub so-far-none : (gs : List GridAxis) (query : ℕ → Float) (kept : List Place) → kept ≡ fourNowhere → SoFar (find 0 gs query) 0 gs query kept
-so-far-none gs query kept e = record { ps = []; many = refl; is = after-none (find 0 gs query); kept-is = e }
+places-one : (ps : List Placed) (p : Placed) → placesOf (ps ++ (p ∷ [])) ≡ placesOf ps ++ (p .place ∷ [])
+places-one [] p = refl
+places-one (a ∷ ps) p = ap (λ (l : List Place). a .place ∷ l) (places-one ps p)
 
-module _ (whole : Found) (i : ℕ) (query : ℕ → Float) (kept : List Place) where
-  pub so-far-placed : (g : GridAxis) (rest : List GridAxis) (p : Placed) → SoFar whole i (g ∷ rest) query kept → i < 4 → g .outcome (query i) ≡ placed p → SoFar whole (suc i) rest query (set kept i (p .place))
-  so-far-placed g rest p s h e = record {
-    ps = s .ps ++ (p ∷ []);
-    many = one-more (s .ps) p ∙ ap suc (s .many);
-    is = s .is ∙ rw e (after-one i (s .ps) p (find (suc i) rest query));
-    kept-is = rw (s .kept-is, ← s .many) (put (s .ps) p (rw (s .many) h));
-  }
+module _ (gs : List GridAxis) (query : ℕ → Float) (kept : List Place) where
+  pub so-far-none : kept ≡ fourNowhere → SoFar gs query 0 kept
+  so-far-none e = record { ps = []; many = refl; is = after-none (find 0 gs query); kept-is = e }
 
-  pub so-far-unplaceable : (g : GridAxis) (rest : List GridAxis) → SoFar whole i (g ∷ rest) query kept → g .outcome (query i) ≡ unplaceable → whole ≡ unplaceableAt i
-  so-far-unplaceable g rest s e = s .is ∙ rw e refl
+  module _ (i : ℕ) (s : SoFar gs query i kept) where
+    module _ (h : i < length gs) where
+      -- axis i is next
+      next : find 0 gs query ≡ after (s .ps) (find i (getD gs i noAxis ∷ drop (suc i) gs) query)
+      next = s .is ∙ ap (λ (rest : List GridAxis). after (s .ps) (find i rest query)) (drop-cons gs i noAxis h)
 
-  pub so-far-all : (number : ℕ) → SoFar whole i [] query kept → (Accepted ≡ foundOutcome number whole) × (kept ≡ fourPlaces (foundOutcome number whole) whole)
-  so-far-all number s =
-      let e : whole ≡ places (s .ps) = s .is ∙ ap places (append-none (s .ps)) in
-      (rw e refl, rw e (s .kept-is))
+      pub so-far-placed : (p : Place) → i < 4 → At p ≡ getD gs i noAxis .loc (query i) → SoFar gs query (i + 1) (set kept i p)
+      so-far-placed p m e =
+          let g = getD gs i noAxis in
+          let q : Placed = record { place = p; weights = g .weights (query i) p; derivatives = g .derivatives (query i) p } in
+          record {
+            ps = s .ps ++ (q ∷ []);
+            many = one-more (s .ps) q ∙ ap suc (s .many) ∙ sym (add-one i);
+            is = rw add-one (next ∙ rw (sym e) (after-one i (s .ps) q (find (suc i) (drop (suc i) gs) query)));
+            kept-is = rw (s .kept-is, places-one) (put-four nowhere (placesOf (s .ps)) p i (length-map (s .ps) (λ (r : Placed). r .place) ∙ s .many) m);
+          }
+
+      pub so-far-unplaceable : Unplaceable ≡ getD gs i noAxis .loc (query i) → find 0 gs query ≡ unplaceableAt i
+      so-far-unplaceable e = next ∙ rw (sym e) refl
+
+    pub so-far-all : i ≡ length gs → (number : ℕ) → Located number gs query (record { outcome = Accepted; places = kept })
+    so-far-all z number =
+        let none : drop i gs ≡ [] = rw z (drop-length gs) in
+        let e : find 0 gs query ≡ places (s .ps) = s .is ∙ rw none (ap places (append-none (s .ps))) in
+        (rw e refl, rw e (s .kept-is))
 
 -- the grid's refusal is the answer
 module _ (g : Grid) (query : ℕ → Float) where

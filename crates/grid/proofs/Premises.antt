@@ -8,12 +8,12 @@ use lib.ListN.{length}
 use lib.Ieee.{Float, Format, eq, fits}
 use Rattle.multicubic.specs.Grid.{product}
 use Rattle.multicubic.specs.Nodes.{AtNode}
-use Rattle.grid.specs.Query.{GridAxis, Grid, gridCounts}
+use Rattle.grid.specs.Query.{GridAxis, outcome, Grid, gridCounts}
 use Rattle.grid.specs.Nodes.{All}
 
 -- what an axis within its kind's premises has: at each node, the row that is one at the node's place
 abbrev pub NodeLaw : Format → GridAxis → Type 0
-NodeLaw f g = (i : ℕ) → i < g .count → (x : Float) → T (fits f x) → T (eq x (g .node i)) → (l : ℤ) × AtNode (g .count) l i (g .outcome x)
+NodeLaw f g = (i : ℕ) → i < g .count → (x : Float) → T (fits f x) → T (eq x (g .node i)) → (l : ℤ) × AtNode (g .count) l i (outcome g x)
 
 abbrev pub NodeLaws : Format → List GridAxis → Type 0
 NodeLaws f gs = All (NodeLaw f) gs

@@ -2,3 +2,4 @@
 pub mod Query
 pub mod Batch
 pub mod Nodes
+pub mod Internal

@@ -1,6 +1,5 @@
 -- One query on a grid: its places, its value and its gradient (01, "The place", "The value", "The gradient").
 use Prim.Native.Nat.{ℕ, suc}
-use mathlib.Core.Path.{_≡_}
 use mathlib.Core.List.{List, [], _∷_, _++_, map}
 use lib.ListN.{getD, take}
 use lib.Ieee.{Float, nan, Format}
@@ -10,17 +9,29 @@ use Rattle.multicubic.specs.declared.Outcome.the-variants.{Accepted, Refused}
 use Rattle.multicubic.specs.declared.Answer.{Answer}
 use Rattle.multicubic.specs.declared.Answer.the-variants as Ans
 use Rattle.multicubic.specs.declared.Place.{Place}
-use Rattle.multicubic.specs.declared.PlaceAnswer.{PlaceAnswer}
+use Rattle.multicubic.specs.declared.Loc.{Loc}
+use Rattle.multicubic.specs.declared.Loc.the-variants.{Unplaceable}
 use Rattle.multicubic.specs.Grid.{_then_}
-use Rattle.multicubic.specs.Place.{nowhere, Placed, AxisOutcome, unplaceable, placed}
+use Rattle.multicubic.specs.Place.{nowhere, Placed, AxisOutcome, unplaceable, placed, outcomeAt}
 use Rattle.reduction.specs.Value.{stridesOf, block, reduceOf}
 use Rattle.reduction.specs.Gradient.{componentOf}
 
--- An axis, to everything above it: its own number of entries, the outcome of a query's coordinate on it, and its node i.
+-- An axis, to everything above it: its own number of entries; of a query's coordinate its place, and at the place the four weights and the
+-- four derivative weights; and its node i.
 pub record GridAxis : Type 0 where
   pub count : ℕ
-  pub outcome : Float → AxisOutcome
+  pub loc : Float → Loc
+  pub weights : Float → Place → List Float
+  pub derivatives : Float → Place → List Float
   pub node : ℕ → Float
+
+-- past the axes; nothing is said of it
+abbrev pub noAxis : GridAxis
+noAxis = record { count = 0; loc = λ x. Unplaceable; weights = λ x p. []; derivatives = λ x p. []; node = λ i. nan }
+
+-- its outcome for a coordinate
+abbrev pub outcome : GridAxis → Float → AxisOutcome
+outcome g x = outcomeAt (g .weights x) (g .derivatives x) (g .loc x)
 
 abbrev pub countsOf : List GridAxis → List ℕ
 countsOf gs = map (λ (g : GridAxis). g .count) gs
@@ -42,7 +53,7 @@ located axis (placed p) (places ps) = places (p ∷ ps)
 -- from an axis on; the query gives a coordinate for each axis
 abbrev pub find : ℕ → List GridAxis → (ℕ → Float) → Found
 find axis [] query = places []
-find axis (g ∷ gs) query = located axis (g .outcome (query axis)) (find (suc axis) gs query)
+find axis (g ∷ gs) query = located axis (outcome g (query axis)) (find (suc axis) gs query)
 
 abbrev pub originsOf : List Placed → List ℕ
 originsOf ps = map (λ (p : Placed). p .place .origin) ps
@@ -57,6 +68,10 @@ blockOf counts vals ps = block vals (stridesOf counts) (originsOf ps)
 unfoldable pub valueOf : Format → List ℕ → List Float → List Placed → Float
 valueOf f counts vals ps = reduceOf f (rowsOf ps) (blockOf counts vals ps)
 
+-- at what is found; +0 where the query is unplaceable
+abbrev pub foundValue : Format → List ℕ → List Float → Found → Float
+foundValue f counts vals found = cases found (λ axis. zero) (valueOf f counts vals)
+
 -- component d for each axis d: its row replaced by its derivative weights
 unfoldable pub componentAt : Format → List ℕ → List Float → List Placed → ℕ → Placed → Float
 componentAt f counts vals ps d p = componentOf f (rowsOf ps) d (p .derivatives) (blockOf counts vals ps)
@@ -67,6 +82,9 @@ componentsFrom f counts vals ps d (p ∷ later) = componentAt f counts vals ps d
 
 abbrev pub componentsOf : Format → List ℕ → List Float → List Placed → List Float
 componentsOf f counts vals ps = componentsFrom f counts vals ps 0 ps
+
+abbrev pub foundComponents : Format → List ℕ → List Float → Found → List Float
+foundComponents f counts vals found = cases found (λ axis. []) (componentsOf f counts vals)
 
 -- What a grid is to its queries: the outcome of its checks 1 to 6, its axis count, its axes and its values.
 pub record Grid : Type 0 where
@@ -96,7 +114,7 @@ answered (Refused number query axis) value = Ans.Refused number query axis
 answered Accepted value = Ans.Value value
 
 abbrev pub valueAnswer : Format → Grid → (ℕ → Float) → Answer
-valueAnswer f g query = answered (outcomeOf g query) (cases (find 0 (g .axes) query) (λ axis. zero) (valueOf f (gridCounts g) (g .vals)))
+valueAnswer f g query = answered (outcomeOf g query) (foundValue f (gridCounts g) (g .vals) (find 0 (g .axes) query))
 
 -- the first four of some, with others in place of what is missing; none of them on refusal
 abbrev pub fourOf : {A : Type 0} → Outcome → A → List A → List A
@@ -105,7 +123,7 @@ fourOf Accepted other xs = take 4 (xs ++ (other ∷ other ∷ other ∷ other �
 
 -- the gradient's four numbers: +0 past the axis count, all +0 on refusal
 abbrev pub gradientAnswer : Format → Grid → (ℕ → Float) → List Float
-gradientAnswer f g query = fourOf (outcomeOf g query) zero (cases (find 0 (g .axes) query) (λ axis. []) (componentsOf f (gridCounts g) (g .vals)))
+gradientAnswer f g query = fourOf (outcomeOf g query) zero (foundComponents f (gridCounts g) (g .vals) (find 0 (g .axes) query))
 
 -- the four places: origin 0 and None past the axis count, and on refusal
 abbrev pub placesOf : List Placed → List Place
@@ -113,10 +131,6 @@ placesOf ps = map (λ (p : Placed). p .place) ps
 
 abbrev pub fourPlaces : Outcome → Found → List Place
 fourPlaces outcome found = fourOf outcome nowhere (cases found (λ axis. []) placesOf)
-
--- what is told of query `number`, by the axes alone
-abbrev pub Located : ℕ → List GridAxis → (ℕ → Float) → PlaceAnswer → Type 0
-Located number gs query r = (r .outcome ≡ foundOutcome number (find 0 gs query)) × (r .places ≡ fourPlaces (foundOutcome number (find 0 gs query)) (find 0 gs query))
 
 abbrev pub placeAnswer : Grid → (ℕ → Float) → List Place
 placeAnswer g query = fourPlaces (outcomeOf g query) (find 0 (g .axes) query)

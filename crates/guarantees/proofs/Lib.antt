@@ -1,2 +1,3 @@
--- Proofs of the statements in specs/.
+-- The marked rows, and the statements of the calls.
 pub mod MarkedRows
+pub mod Calls

@@ -1,2 +1,3 @@
 -- Statements of paper 01 about both kinds of grid.
+pub mod Statements
 pub mod MarkedRows

@@ -62,3 +62,10 @@ each-within [] n i h k e = absurd (omega arith)
 each-within (x ∷ xs) zero i h k e = absurd (omega arith)
 each-within (x ∷ xs) (suc n) zero h k e = ltb-false 4096 x (or-false _ _ e .0)
 each-within (x ∷ xs) (suc n) (suc i) h k e = each-within xs n i (omega arith) (omega arith) (or-false (ltb 4096 x) (anyOver (take n xs)) e .1)
+
+-- no count in use is over
+pub count-within : (n : ℕ) (counts : List ℕ) (j : ℕ) → j < n → anyOver (take n counts) ≡ false → getD counts j 0 ≤ 4096
+count-within zero counts j h e = absurd (omega arith)
+count-within (suc n) [] j h e = omega arith
+count-within (suc n) (c ∷ counts) zero h e = ltb-false 4096 c (or-false (ltb 4096 c) (anyOver (take n counts)) e .0)
+count-within (suc n) (c ∷ counts) (suc j) h e = count-within n counts j (omega arith) (or-false (ltb 4096 c) (anyOver (take n counts)) e .1)

@@ -67,6 +67,12 @@ pub struct PlaceAnswer {
     pub places: [Place; 4],
 }
 
+// A query's gradient: +0 past the axis count, and on refusal.
+pub struct GradientAnswer {
+    pub outcome: Outcome,
+    pub gradient: [f64; 4],
+}
+
 // The length of the joined axes of a rectilinear grid; a regular grid has none.
 pub enum AxesLength {
     Regular,
@@ -162,7 +168,7 @@ fn product_of(n: usize, counts: [usize; 4]) -> usize
 }
 
 // The sum of the first n counts.
-fn sum_of(n: usize, counts: [usize; 4]) -> usize
+pub fn sum_of(n: usize, counts: [usize; 4]) -> usize
     requires { ⌜ n ≤ 4 ⌝ }
     requires { ⌜ anyOver (take n counts) ≡ false ⌝ }
     ensures { λ r. ⌜ r ≡ sum (take n counts) ⌝ }

@@ -1,24 +1,24 @@
 -- Demand 3 on a rectilinear grid, of the definitions. The laws of `grid` on batches and blocks apply by `node-case`, `alike` and `axes-counted`.
 -- Assumes nothing.
-use mathlib.Core.Path.{_≡_, refl, ap, _∙_}
-use mathlib.Core.Bool.{Bool}
-use mathlib.Core.List.{List, [], _∷_}
-use Prim.Native.Nat.{ℕ, suc, _≤_}
+use mathlib.Core.Path.{_≡_, refl}
+use mathlib.Core.List.{List}
+use Prim.Native.Nat.{ℕ, _≤_}
 use lib.Dec.{T}
-use lib.ListN.{length, take, drop}
-use lib.Seq.{length-take-le}
+use lib.ListN.{length, take}
 use lib.Ieee.{Float, Format, eq, fits}
 use Rattle.multicubic.specs.declared.EdgeMode.{EdgeMode}
 use Rattle.multicubic.specs.declared.Outcome.the-variants.{Accepted}
 use Rattle.multicubic.specs.declared.Answer.the-variants.{Value}
+use Rattle.multicubic.specs.Place.{straightOf}
 use Rattle.rectilinear_order.specs.Grid.{axesOf}
 use Rattle.grid.specs.Query.{valueAnswer}
 use Rattle.grid.specs.Nodes.{AtIndex, stored, FiniteValues, Fits}
 use Rattle.grid.proofs.AtNodes.{NodeCase, node-answer}
 use Rattle.grid.proofs.InBatches.{Alike}
-use Rattle.rectilinear.specs.Grid.{gridAxes, gridOf, AllPremises}
+use Rattle.rectilinear.specs.Grid.{gridOf, AllPremises}
 use Rattle.rectilinear.proofs.Sizes.{sized}
 use Rattle.rectilinear.proofs.Laws.{node-laws}
+use Rattle.rectilinear.proofs.Locating.{axes-long}
 
 module _ (f : Format) (n : ℕ) (counts : List ℕ) (joined : List Float) (entries : Fits f joined) (premises : AllPremises f (axesOf (take n counts) joined)) (is : List ℕ) (query : ℕ → Float) (typed : (a : ℕ) → T (fits f (query a))) where
   pub node-case : (vals : List Float) (mode : EdgeMode) → gridOf f n counts joined vals mode .checked ≡ Accepted → FiniteValues vals → Fits f vals → AtIndex 0 (gridOf f n counts joined vals mode .axes) is query → NodeCase f (gridOf f n counts joined vals mode) is query
@@ -41,10 +41,6 @@ module _ (f : Format) (n : ℕ) (counts : List ℕ) (joined : List Float) (entri
 pub alike : (f : Format) (n : ℕ) (counts : List ℕ) (joined vals vals' : List Float) (mode : EdgeMode) → gridOf f n counts joined vals mode .checked ≡ Accepted → gridOf f n counts joined vals' mode .checked ≡ Accepted → Alike (gridOf f n counts joined vals mode) (gridOf f n counts joined vals' mode)
 alike f n counts joined vals vals' mode taken taken' = record { taken = taken; taken' = taken'; count = refl; axes = refl }
 
-axes-length : (f : Format) (straight : Bool) (counts : List ℕ) (joined : List Float) → length (gridAxes f straight (axesOf counts joined)) ≡ length counts
-axes-length f straight [] joined = refl
-axes-length f straight (c ∷ rest) joined = ap suc (axes-length f straight rest (drop c joined))
-
 -- as many axes as the axis count
 pub axes-counted : (f : Format) (n : ℕ) (counts : List ℕ) (joined vals : List Float) (mode : EdgeMode) → n ≤ length counts → length (gridOf f n counts joined vals mode .axes) ≡ n
-axes-counted f n counts joined vals mode h = axes-length f _ (take n counts) joined ∙ length-take-le n counts h
+axes-counted f n counts joined vals mode h = axes-long f (straightOf mode) n counts joined h

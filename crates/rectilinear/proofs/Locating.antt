@@ -1,48 +1,138 @@
--- `locate`, axis by axis. Assumes nothing.
-use mathlib.Core.Path.{_≡_, refl, ap, _∙_, subst}
-use mathlib.Core.Bool.{Bool}
-use mathlib.Core.List.{List, _∷_}
-use Prim.Native.Nat.{ℕ, suc, _+_, _-_, _<_}
+-- Axis by axis: what the axes of a grid that is taken give to the code's loops over them. Assumes nothing.
+use mathlib.Core.Path.{_≡_, refl, sym, ap, _∙_}
+use mathlib.Core.Bool.{Bool, false}
+use mathlib.Core.List.{List, [], _∷_, map}
+use Prim.Native.Nat.{ℕ, zero, suc, _+_, _-_, _≤_, _<_}
 use native.Mathlib.Numerals.{add-one}
-use lib.ListN.{getD, take, drop, set}
-use lib.Seq.{slice, slice-empty}
-use lib.Ieee.{Float, nan, Format}
+use native.Mathlib.Omega.{arith}
+use lib.Dec.{ltb}
+use lib.IntN.{pos, _-ℤ_}
+use lib.ListN.{length, getD, take, drop, length-map, length-take, length-drop, List·getD-map}
+use lib.Seq.{length-take-le, drop-drop}
+use lib.Ieee.{Float, Format}
+use Rattle.multicubic.specs.declared.AxesLength.the-variants.{Joined}
 use Rattle.multicubic.specs.declared.Place.{Place}
-use Rattle.multicubic.specs.declared.Outcome.the-variants.{Accepted}
-use Rattle.multicubic.specs.declared.Loc.{Loc}
-use Rattle.multicubic.specs.declared.Loc.the-variants.{At, Unplaceable}
-use Rattle.multicubic.specs.Place.{outcomeAt}
-use Rattle.rectilinear_order.specs.Grid.{axesOf, disorder}
-use Rattle.rectilinear_order.proofs.Passes.{Left, parts}
-use Rattle.rectilinear_axis.specs.Place.{locOf}
-use Rattle.rectilinear_axis.specs.Nodes.{weightsAt, derivativesAt}
-use Rattle.grid.specs.Query.{unplaceableAt, find, at, Located}
-use Rattle.grid.proofs.Locating.{SoFar, so-far-placed, so-far-unplaceable, so-far-all}
-use Rattle.rectilinear.specs.Grid.{gridAxis, gridAxes}
+use Rattle.multicubic.specs.Grid.{lowest, product, sum, anyOver, sizeChecks}
+use Rattle.multicubic.specs.Place.{nowhere}
+use Rattle.multicubic.proofs.Passed.{Passed, then-accepted, lowest-accepted}
+use Rattle.multicubic.proofs.Sizes.{or-false}
+use Rattle.rectilinear_order.specs.Grid.{axesOf, notRising, disorder, orderChecks}
+use Rattle.rectilinear_axis.specs.Place.{countBelow}
+use Rattle.grid.specs.Query.{noAxis as noGridAxis, countsOf as gridCounts}
+use Rattle.grid.specs.Internal.{PlacedOn}
+use Rattle.grid.specs.Nodes.{All}
+use Rattle.grid.proofs.Premises.{Long}
+use Rattle.grid.proofs.Sizes.{all-long, each-long}
+use Rattle.grid.proofs.Evaluating.{Roomy, roomy-place, Fit, place-here}
+use Rattle.rectilinear.specs.Grid.{Taken, gridAxis, gridAxes}
+use Rattle.rectilinear.proofs.Sizes.{part-length, rest-length, grid-counts, passed, joined-length}
 
--- axis i is next; its first entry stands at place from
-abbrev pub Going : Format → Bool → ℕ → List ℕ → List Float → List Float → ℕ → ℕ → List Place → Type 0
-Going f straight n counts axes x from i kept = SoFar (find 0 (gridAxes f straight (axesOf (take n counts) axes)) (at x)) i (gridAxes f straight (axesOf (slice i n counts) (drop from axes))) (at x) kept
+-- ---- where an axis stands in the joined axes
+-- the next one starts where this one ends
+pub sum-next : (cs : List ℕ) (j : ℕ) → sum (take (j + 1) cs) ≡ sum (take j cs) + getD cs j 0
+sum-next cs j = rw add-one (go cs j)
+  where
+    go : (cs : List ℕ) (j : ℕ) → sum (take (suc j) cs) ≡ sum (take j cs) + getD cs j 0
+    go [] zero = refl
+    go [] (suc j) = refl
+    go (c ∷ cs) zero = omega arith
+    go (c ∷ cs) (suc j) = omega (arith, go cs j)
 
--- axis i, as the code takes it
-abbrev pub part : List ℕ → List Float → ℕ → ℕ → List Float
-part counts axes from i = take (from + getD counts i 0 - from) (drop from axes)
+sum-most : (n : ℕ) (cs : List ℕ) (j : ℕ) → j < n → sum (take j cs) + getD cs j 0 ≤ sum (take n cs)
+sum-most zero cs j h = absurd (omega arith)
+sum-most (suc n) [] zero h = omega arith
+sum-most (suc n) [] (suc j) h = omega arith
+sum-most (suc n) (c ∷ cs) zero h = omega arith
+sum-most (suc n) (c ∷ cs) (suc j) h = omega (arith, sum-most n cs j (omega arith))
 
-module _ (f : Format) (straight : Bool) (n : ℕ) (counts : List ℕ) (axes x : List Float) (from i : ℕ) (kept : List Place) (l : Left 6 disorder n counts axes from i) (h : i < n) (s : Going f straight n counts axes x from i kept) where
-  next : SoFar (find 0 (gridAxes f straight (axesOf (take n counts) axes)) (at x)) i (gridAxis f straight (part counts axes from i) ∷ gridAxes f straight (axesOf (slice (suc i) n counts) (drop (from + getD counts i 0) axes))) (at x) kept
-  next = subst (λ (rest : List (List Float)). SoFar (find 0 (gridAxes f straight (axesOf (take n counts) axes)) (at x)) i (gridAxes f straight rest) (at x) kept) (parts l h) s
+-- whatever is told of each part is, at j, told of the entries of axis j
+part-at : {A : Type 0} (told : List Float → A) (d : A) (n : ℕ) (counts : List ℕ) (joined : List Float) (j : ℕ) → j < n → n ≤ length counts
+    → getD (map told (axesOf (take n counts) joined)) j d ≡ told (take (getD counts j 0) (drop (sum (take j counts)) joined))
+part-at told d zero counts joined j h k = absurd (omega arith)
+part-at told d (suc n) [] joined j h k = absurd (omega arith)
+part-at told d (suc n) (c ∷ counts) joined zero h k = refl
+part-at told d (suc n) (c ∷ counts) joined (suc j) h k =
+    part-at told d n counts (drop c joined) j (omega arith) (omega arith) ∙ ap (λ (rest : List Float). told (take (getD counts j 0) rest)) (drop-drop (sum (take j counts)) c joined)
 
-  outcome-is : (loc : Loc) → loc ≡ locOf (part counts axes from i) (getD x i nan) → gridAxis f straight (part counts axes from i) .outcome (getD x i nan) ≡ outcomeAt (weightsAt f (part counts axes from i) straight (getD x i nan)) (derivativesAt f (part counts axes from i) straight (getD x i nan)) loc
-  outcome-is loc e = rw e refl
+-- none of n counts is over, so none of the first j is
+before-within : (n : ℕ) (counts : List ℕ) (j : ℕ) → j ≤ n → anyOver (take n counts) ≡ false → anyOver (take j counts) ≡ false
+before-within n counts zero h e = refl
+before-within zero counts (suc j) h e = absurd (omega arith)
+before-within (suc n) [] (suc j) h e = refl
+before-within (suc n) (c ∷ counts) (suc j) h e =
+    let p = or-false (ltb 4096 c) (anyOver (take n counts)) e in
+    rw (p .0) (before-within n counts j (omega arith) (p .1))
 
-  pub next-unplaceable : Unplaceable ≡ locOf (part counts axes from i) (getD x i nan) → find 0 (gridAxes f straight (axesOf (take n counts) axes)) (at x) ≡ unplaceableAt i
-  next-unplaceable e = so-far-unplaceable _ i (at x) kept (gridAxis f straight (part counts axes from i)) _ next (outcome-is Unplaceable e)
+parts-length : (cs : List ℕ) (joined : List Float) → length (axesOf cs joined) ≡ length cs
+parts-length [] joined = refl
+parts-length (c ∷ cs) joined = ap suc (parts-length cs (drop c joined))
 
-  pub next-placed : (p : Place) → At p ≡ locOf (part counts axes from i) (getD x i nan) → i < 4 → Going f straight n counts axes x (from + getD counts i 0) (i + 1) (set kept i p)
-  next-placed p e m = rw add-one (so-far-placed _ i (at x) kept (gridAxis f straight (part counts axes from i)) _ _ next m (outcome-is (At p) e))
+pub axes-long : (f : Format) (straight : Bool) (n : ℕ) (counts : List ℕ) (joined : List Float) → n ≤ length counts → length (gridAxes f straight (axesOf (take n counts) joined)) ≡ n
+axes-long f straight n counts joined h = length-map (axesOf (take n counts) joined) (gridAxis f straight) ∙ parts-length (take n counts) joined ∙ length-take-le n counts h
 
-pub all-placed : (f : Format) (straight : Bool) (n : ℕ) (counts : List ℕ) (axes x : List Float) (from i : ℕ) (kept : List Place) (number : ℕ) → i ≡ n → Going f straight n counts axes x from i kept
-    → Located number (gridAxes f straight (axesOf (take n counts) axes)) (at x) (record { outcome = Accepted; places = kept })
-all-placed f straight n counts axes x from i kept number e s =
-    so-far-all (find 0 (gridAxes f straight (axesOf (take n counts) axes)) (at x)) i (at x) kept number
-    (subst (λ (cs : List ℕ). SoFar (find 0 (gridAxes f straight (axesOf (take n counts) axes)) (at x)) i (gridAxes f straight (axesOf cs (drop from axes))) (at x) kept) (ap (λ (k : ℕ). slice k n counts) e ∙ slice-empty n counts) s)
+roomy-axis : (f : Format) (straight : Bool) (entries : List Float) → 4 ≤ length entries → Roomy (gridAxis f straight entries)
+roomy-axis f straight entries h x p e = roomy-place (length entries) (pos (countBelow x entries) -ℤ pos 2) p h e
+
+roomy-axes : (f : Format) (straight : Bool) (cs : List ℕ) (joined : List Float) → length joined ≡ sum cs → Long cs → All Roomy (gridAxes f straight (axesOf cs joined))
+roomy-axes f straight [] joined e h = tt
+roomy-axes f straight (c ∷ cs) joined e h = (roomy-axis f straight (take c joined) (rw (part-length c cs joined e) (h .0)), roomy-axes f straight cs (drop c joined) (rest-length c cs joined e) (h .1))
+
+-- a grid that is taken
+module _ (f : Format) (straight : Bool) (n : ℕ) (counts : List ℕ) (joined : List Float) (four : length counts ≡ 4) (taken : Taken n counts joined) where
+  sizes : Passed n counts (taken .0) (Joined (length joined))
+  sizes = passed n counts joined (taken .0) (taken .1)
+
+  total : length joined ≡ sum (take n counts)
+  total = joined-length n counts joined (taken .0) (taken .1)
+
+  pub counts-are : gridCounts (gridAxes f straight (axesOf (take n counts) joined)) ≡ take n counts
+  counts-are = grid-counts f straight (take n counts) joined total
+
+  pub fit : Fit n (gridAxes f straight (axesOf (take n counts) joined)) (taken .0)
+  fit = record {
+    some = sizes .some;
+    few = sizes .few;
+    counted = let few = sizes .few in axes-long f straight n counts joined (omega arith);
+    roomy = roomy-axes f straight (take n counts) joined total (all-long (take n counts) (sizes .long));
+    size = sizes .values-is ∙ ap product (sym counts-are);
+  }
+
+  module _ (j : ℕ) (h : j < n) where
+    -- what `sum_of` asks, for where axis j starts
+    pub starts-within : anyOver (take j counts) ≡ false
+    starts-within = before-within n counts j (omega arith) (sizes .within)
+
+    -- axis j, as the code takes it from its start
+    module _ (start : ℕ) (e : start ≡ sum (take j counts)) where
+      abbrev part : List Float
+      part = take (start + getD counts j 0 - start) (drop start joined)
+
+      pub ends-within : start + getD counts j 0 ≤ length joined
+      ends-within = omega (arith, total, sum-most n counts j h)
+
+      -- it is the part that the definitions have
+      part-is : {A : Type 0} (told : List Float → A) (d : A) → getD (map told (axesOf (take n counts) joined)) j d ≡ told part
+      part-is told d =
+          let few = sizes .few in
+          let k : start + getD counts j 0 - start ≡ getD counts j 0 = omega arith in
+          rw (k, e) (part-at told d n counts joined j h (omega arith))
+
+      pub long-at : 4 ≤ length part
+      long-at = let long = each-long n counts (taken .0) (Joined (length joined)) sizes four j h in simp (length-take, length-drop) (omega (arith, ends-within))
+
+      pub axis-is : getD (gridAxes f straight (axesOf (take n counts) joined)) j noGridAxis ≡ gridAxis f straight part
+      axis-is = part-is (gridAxis f straight) noGridAxis
+
+      -- check 6 has passed it
+      pub sound-at : disorder part ≡ false
+      sound-at =
+          let few = sizes .few in
+          let parts = axesOf (take n counts) joined in
+          let many : length parts ≡ n = parts-length (take n counts) joined ∙ length-take-le n counts (omega arith) in
+          let checked = then-accepted (sizeChecks n counts (taken .0) (Joined (length joined))) (orderChecks parts) (taken .1) in
+          let sound = then-accepted (lowest 5 notRising 0 parts) (lowest 6 disorder 0 parts) (checked .1) .1 in
+          sym (part-is disorder (disorder [])) ∙ List·getD-map disorder parts j [] ∙ lowest-accepted 6 disorder 0 parts [] sound j (omega arith)
+
+      -- its block lies on the axis
+      pub room-at : (query : ℕ → Float) (places : List Place) → PlacedOn (gridAxes f straight (axesOf (take n counts) joined)) query places → getD places j nowhere .origin + 4 ≤ length part
+      room-at query places on = roomy-axis f straight part long-at (query j) (getD places j nowhere) (ap (λ g. g .loc (query j)) (sym axis-is) ∙ place-here fit query places on j h)

@@ -11,10 +11,10 @@ use borrow.Author.Tests.{eqb-true, not-false}
 use Rattle.multicubic.specs.declared.AxesLength.the-variants.{Joined}
 use Rattle.multicubic.specs.declared.EdgeMode.{EdgeMode}
 use Rattle.multicubic.specs.declared.Outcome.the-variants.{Accepted}
-use Rattle.multicubic.specs.Grid.{sum, lowest, sizeChecks}
+use Rattle.multicubic.specs.Grid.{sum, sizeChecks}
 use Rattle.multicubic.specs.Place.{straightOf}
 use Rattle.multicubic.proofs.Passed.{then-accepted, Passed, accepted}
-use Rattle.rectilinear_order.specs.Grid.{axesOf, notRising, disorder}
+use Rattle.rectilinear_order.specs.Grid.{axesOf}
 use Rattle.grid.specs.Query.{countsOf}
 use Rattle.grid.proofs.Premises.{Sized}
 use Rattle.grid.proofs.Sizes.{sized-by, each-long}
@@ -28,7 +28,7 @@ module _ (c : ℕ) (cs : List ℕ) (joined : List Float) (e : length joined ≡ 
   pub rest-length : length (drop c joined) ≡ sum cs
   rest-length = simp length-drop (omega arith)
 
-grid-counts : (f : Format) (straight : Bool) (cs : List ℕ) (joined : List Float) → length joined ≡ sum cs → countsOf (gridAxes f straight (axesOf cs joined)) ≡ cs
+pub grid-counts : (f : Format) (straight : Bool) (cs : List ℕ) (joined : List Float) → length joined ≡ sum cs → countsOf (gridAxes f straight (axesOf cs joined)) ≡ cs
 grid-counts f straight [] joined e = refl
 grid-counts f straight (c ∷ cs) joined e = rw (part-length c cs joined e, grid-counts f straight cs (drop c joined) (rest-length c cs joined e))
 
@@ -49,12 +49,3 @@ pub orderable : (n : ℕ) (counts : List ℕ) (joined : List Float) (values : �
 orderable n counts joined values four e =
     let p = accepted n counts values (Joined (length joined)) e in
     (p .few, sym (eqb-true (length joined) (sum (take n counts)) (not-false _ (p .joined))), each-long n counts values (Joined (length joined)) p four)
-
--- what `locate` asks, once the grid is taken
-pub locatable : (n : ℕ) (counts : List ℕ) (joined : List Float) (values : ℕ) → length counts ≡ 4 → checksOf n counts joined values ≡ Accepted
-    → (n ≤ 4) × (sum (take n counts) ≡ length joined) × ((i : ℕ) → i < n → 4 ≤ getD counts i 0) × (lowest 6 disorder 0 (axesOf (take n counts) joined) ≡ Accepted)
-locatable n counts joined values four e =
-    let t = then-accepted _ _ e in
-    let o = orderable n counts joined values four (t .0) in
-    let parts = axesOf (take n counts) joined in
-    (o .0, o .1, o .2, then-accepted (lowest 5 notRising 0 parts) (lowest 6 disorder 0 parts) (t .1) .1)

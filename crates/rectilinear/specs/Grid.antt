@@ -1,5 +1,6 @@
 -- 01, "The grid, taken or turned away", rectilinear: the axes are joined, and an axis is a part of them.
 use Prim.Native.Nat.{ℕ}
+use mathlib.Core.Path.{_≡_}
 use mathlib.Core.Bool.{Bool}
 use mathlib.Core.List.{List, map}
 use lib.ListN.{length, getD, take}
@@ -7,10 +8,12 @@ use lib.Ieee.{Float, nan, Format}
 use Rattle.multicubic.specs.declared.AxesLength.the-variants.{Joined}
 use Rattle.multicubic.specs.declared.EdgeMode.{EdgeMode}
 use Rattle.multicubic.specs.declared.Outcome.{Outcome}
+use Rattle.multicubic.specs.declared.Outcome.the-variants.{Accepted}
 use Rattle.multicubic.specs.Grid.{_then_, sizeChecks}
 use Rattle.multicubic.specs.Place.{straightOf}
 use Rattle.rectilinear_order.specs.Grid.{axesOf, orderChecks}
-use Rattle.rectilinear_axis.specs.Nodes.{Premises, outcomeOf}
+use Rattle.rectilinear_axis.specs.Place.{locOf}
+use Rattle.rectilinear_axis.specs.Nodes.{Premises, weightsAt, derivativesAt}
 use Rattle.grid.specs.Query.{GridAxis, Grid}
 use Rattle.grid.specs.Nodes.{All}
 
@@ -18,10 +21,16 @@ use Rattle.grid.specs.Nodes.{All}
 abbrev pub checksOf : ℕ → List ℕ → List Float → ℕ → Outcome
 checksOf n counts joined values = sizeChecks n counts values (Joined (length joined)) then orderChecks (axesOf (take n counts) joined)
 
+-- accepted with some number of values
+abbrev pub Taken : ℕ → List ℕ → List Float → Type 0
+Taken n counts joined = (values : ℕ) × (checksOf n counts joined values ≡ Accepted)
+
 abbrev pub gridAxis : Format → Bool → List Float → GridAxis
 gridAxis f straight entries = record {
   count = length entries;
-  outcome = outcomeOf f entries straight;
+  loc = locOf entries;
+  weights = weightsAt f entries straight;
+  derivatives = derivativesAt f entries straight;
   node = λ i. getD entries i nan;
 }
 

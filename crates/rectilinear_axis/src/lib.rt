@@ -7,12 +7,13 @@ ghost use lib.Ieee.{binary64};
 ghost use Rattle.rectilinear_order.specs.Grid.{disorder};
 ghost use Rattle.rectilinear_axis.specs.Place.{countBelow, locOf};
 ghost use Rattle.rectilinear_axis.specs.Weights.{centeredDifference, interior, cubicLow, cubicHigh, weightsOf, derivativesOf};
-ghost use Rattle.rectilinear_axis.specs.Nodes.{cellOf};
+ghost use Rattle.rectilinear_axis.specs.Nodes.{cellOf, weightsAt, derivativesAt};
 use interp_math::hermite_basis;
 use interp_math::hermite_basis_derivative;
 use interp_math::mul_add;
 use interp_math::scale_weights;
 use multicubic::Loc;
+use multicubic::Place;
 use multicubic::Saturation;
 use multicubic::place_from;
 
@@ -47,7 +48,7 @@ pub fn get_loc(grid: &[f64], v: f64) -> Loc
 }
 
 // The block's four entries.
-pub fn grid_cell(grid: &[f64], origin: usize) -> [f64; 4]
+fn grid_cell(grid: &[f64], origin: usize) -> [f64; 4]
     requires { ⌜ origin + 4 ≤ length (now grid) ⌝ }
     ensures { λ r. ⌜ r ≡ cellOf (now (grid .entry)) origin ⌝ }
 {
@@ -60,7 +61,7 @@ pub fn grid_cell(grid: &[f64], origin: usize) -> [f64; 4]
 }
 
 // Second-order central difference weights on unequal gaps.
-pub fn centered_difference_weights(h01: f64, h12: f64) -> [f64; 3]
+fn centered_difference_weights(h01: f64, h12: f64) -> [f64; 3]
     ensures { λ r. ⌜ r ≡ centeredDifference binary64 h01 h12 ⌝ }
 {
     let denom = h01 + h12;
@@ -201,7 +202,7 @@ fn high_weight_derivatives(grid_cell: [f64; 4], x: f64, linearize_extrapolation:
 }
 
 // The four weights of a block, by the class of the query's place. Only the Outside classes follow the straight line.
-pub fn interp_weights(
+fn interp_weights(
     grid_cell: [f64; 4],
     x: f64,
     sat: Saturation,
@@ -219,7 +220,7 @@ pub fn interp_weights(
 }
 
 // Their derivatives by the query.
-pub fn interp_weight_derivatives(
+fn interp_weight_derivatives(
     grid_cell: [f64; 4],
     x: f64,
     sat: Saturation,
@@ -234,4 +235,24 @@ pub fn interp_weight_derivatives(
         Saturation::InsideHigh => high_weight_derivatives(grid_cell, x, false),
         Saturation::OutsideHigh => high_weight_derivatives(grid_cell, x, linearize_extrapolation),
     }
+}
+
+// The weights of v's block at its place.
+pub fn weights_at(grid: &[f64], v: f64, place: Place, linearize_extrapolation: bool) -> [f64; 4]
+    requires { ⌜ place .origin + 4 ≤ length (now grid) ⌝ }
+    ensures { λ r. ⌜ r ≡ weightsAt binary64 (now (grid .entry)) «linearize_extrapolation» v place ⌝ }
+{
+    let class = place.class;
+    let cell = grid_cell(grid, place.origin);
+    interp_weights(cell, v, class, linearize_extrapolation)
+}
+
+// Its derivative weights.
+pub fn derivatives_at(grid: &[f64], v: f64, place: Place, linearize_extrapolation: bool) -> [f64; 4]
+    requires { ⌜ place .origin + 4 ≤ length (now grid) ⌝ }
+    ensures { λ r. ⌜ r ≡ derivativesAt binary64 (now (grid .entry)) «linearize_extrapolation» v place ⌝ }
+{
+    let class = place.class;
+    let cell = grid_cell(grid, place.origin);
+    interp_weight_derivatives(cell, v, class, linearize_extrapolation)
 }

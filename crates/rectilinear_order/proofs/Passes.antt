@@ -10,7 +10,6 @@ use lib.Seq.{slice, slice-cons, slice-empty, drop-drop}
 use lib.Ieee.{Float}
 use Rattle.multicubic.specs.declared.Outcome.the-variants.{Accepted, Refused}
 use Rattle.multicubic.specs.Grid.{sum, lowest}
-use Rattle.multicubic.proofs.Passed.{no-fault}
 use Rattle.rectilinear_order.specs.Grid.{axesOf}
 
 -- before axis i, whose first entry stands at place at
@@ -40,7 +39,7 @@ module _ {number : ℕ} {fault : List Float → Bool} {n : ℕ} {counts : List �
     long k = simp (length-take, length-drop) (omega (arith, fits))
 
     -- the part of axis i, as the code takes it
-    pub parts : axesOf (slice i n counts) (drop at axes) ≡ take (at + getD counts i 0 - at) (drop at axes) ∷ axesOf (slice (suc i) n counts) (drop (at + getD counts i 0) axes)
+    parts : axesOf (slice i n counts) (drop at axes) ≡ take (at + getD counts i 0 - at) (drop at axes) ∷ axesOf (slice (suc i) n counts) (drop (at + getD counts i 0) axes)
     parts =
         let k = l .held in
         let e : at + getD counts i 0 - at ≡ getD counts i 0 = omega arith in
@@ -52,10 +51,6 @@ module _ {number : ℕ} {fault : List Float → Bool} {n : ℕ} {counts : List �
 
     pub refused : fault (take (at + getD counts i 0 - at) (drop at axes)) ≡ true → Refused number 0 i ≡ lowest number fault 0 (axesOf (take n counts) axes)
     refused e = sym (l .same ∙ turn ∙ rw e)
-
-    -- no axis has the fault, so this one has none
-    pub sound : lowest number fault 0 (axesOf (take n counts) axes) ≡ Accepted → fault (take (at + getD counts i 0 - at) (drop at axes)) ≡ false
-    sound e = no-fault (fault (take (at + getD counts i 0 - at) (drop at axes))) number i _ (sym turn ∙ sym (l .same) ∙ e) .0
 
     pub next : fault (take (at + getD counts i 0 - at) (drop at axes)) ≡ false → Left number fault n counts axes (at + getD counts i 0) (i + 1)
     next e = record {

@@ -1,24 +1,24 @@
 -- Demand 3 on a regular grid, of the definitions. The laws of `grid` on batches and blocks apply by `node-case`, `alike` and `axes-counted`.
 -- Assumes nothing.
-use mathlib.Core.Path.{_≡_, refl, ap, _∙_}
-use mathlib.Core.Bool.{Bool}
-use mathlib.Core.List.{List, [], _∷_}
-use Prim.Native.Nat.{ℕ, suc, _≤_}
+use mathlib.Core.Path.{_≡_, refl}
+use mathlib.Core.List.{List}
+use Prim.Native.Nat.{ℕ, _≤_}
 use lib.Dec.{T}
 use lib.ListN.{length, take}
-use lib.Seq.{length-take-le}
 use lib.Ieee.{Float, Format, eq, fits}
 use Rattle.multicubic.specs.declared.Axis.{Axis}
 use Rattle.multicubic.specs.declared.EdgeMode.{EdgeMode}
 use Rattle.multicubic.specs.declared.Outcome.the-variants.{Accepted}
 use Rattle.multicubic.specs.declared.Answer.the-variants.{Value}
+use Rattle.multicubic.specs.Place.{straightOf}
 use Rattle.grid.specs.Query.{valueAnswer}
 use Rattle.grid.specs.Nodes.{AtIndex, stored, FiniteValues, Fits}
 use Rattle.grid.proofs.AtNodes.{NodeCase, node-answer}
 use Rattle.grid.proofs.InBatches.{Alike}
-use Rattle.regular.specs.Grid.{gridAxes, gridOf, AllPremises}
+use Rattle.regular.specs.Grid.{gridOf, AllPremises}
 use Rattle.regular.proofs.Sizes.{sized}
 use Rattle.regular.proofs.Laws.{node-laws}
+use Rattle.regular.proofs.Locating.{axes-long}
 
 module _ (f : Format) (n : ℕ) (axes : List Axis) (premises : AllPremises (take n axes)) (is : List ℕ) (query : ℕ → Float) (typed : (a : ℕ) → T (fits f (query a))) where
   pub node-case : (vals : List Float) (mode : EdgeMode) → gridOf f n axes vals mode .checked ≡ Accepted → FiniteValues vals → Fits f vals → AtIndex 0 (gridOf f n axes vals mode .axes) is query → NodeCase f (gridOf f n axes vals mode) is query
@@ -41,10 +41,6 @@ module _ (f : Format) (n : ℕ) (axes : List Axis) (premises : AllPremises (take
 pub alike : (f : Format) (n : ℕ) (axes : List Axis) (vals vals' : List Float) (mode : EdgeMode) → gridOf f n axes vals mode .checked ≡ Accepted → gridOf f n axes vals' mode .checked ≡ Accepted → Alike (gridOf f n axes vals mode) (gridOf f n axes vals' mode)
 alike f n axes vals vals' mode taken taken' = record { taken = taken; taken' = taken'; count = refl; axes = refl }
 
-axes-length : (f : Format) (straight : Bool) (axes : List Axis) → length (gridAxes f straight axes) ≡ length axes
-axes-length f straight [] = refl
-axes-length f straight (a ∷ rest) = ap suc (axes-length f straight rest)
-
 -- as many axes as the axis count
 pub axes-counted : (f : Format) (n : ℕ) (axes : List Axis) (vals : List Float) (mode : EdgeMode) → n ≤ length axes → length (gridOf f n axes vals mode .axes) ≡ n
-axes-counted f n axes vals mode h = axes-length f _ (take n axes) ∙ length-take-le n axes h
+axes-counted f n axes vals mode h = axes-long f (straightOf mode) n axes h

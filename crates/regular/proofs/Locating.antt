@@ -1,53 +1,89 @@
--- `locate`, axis by axis. Assumes nothing.
-use mathlib.Core.Path.{_≡_, refl, ap, _∙_, subst}
-use mathlib.Core.Bool.{Bool}
+-- Axis by axis: what the axes of a grid that is taken give to the code's loops over them. Assumes nothing.
+use mathlib.Core.Path.{_≡_, refl, sym, ap, _∙_, subst}
+use mathlib.Core.Bool.{Bool, true, false, cond}
 use mathlib.Core.List.{List, [], _∷_}
 use Prim.Native.Nat.{ℕ, zero, suc, _+_, _≤_, _<_}
-use native.Mathlib.Numerals.{add-one}
-use lib.ListN.{length, getD, take, set}
-use lib.Seq.{slice, slice-empty, slice-cons}
-use lib.Ieee.{Float, nan, Format}
+use native.Mathlib.Omega.{arith}
+use lib.IntN.{pos, _-ℤ_}
+use lib.ListN.{length, getD, take}
+use lib.Seq.{length-take-le}
+use lib.Ieee.{Float, Format}
 use Rattle.multicubic.specs.declared.Axis.{Axis}
-use Rattle.multicubic.specs.declared.Place.{Place}
-use Rattle.multicubic.specs.declared.Outcome.the-variants.{Accepted}
-use Rattle.multicubic.specs.declared.Loc.{Loc}
+use Rattle.multicubic.specs.declared.AxesLength.the-variants.{Regular}
 use Rattle.multicubic.specs.declared.Loc.the-variants.{At, Unplaceable}
-use Rattle.multicubic.specs.Place.{outcomeAt}
-use Rattle.regular_axis.specs.Place.{locOf}
-use Rattle.regular_axis.specs.Nodes.{weightsAt, derivativesAt}
-use Rattle.grid.specs.Query.{unplaceableAt, find, at, Located}
-use Rattle.grid.proofs.Locating.{SoFar, so-far-placed, so-far-unplaceable, so-far-all}
-use Rattle.regular.specs.Grid.{countsOf, gridAxis, gridAxes}
-use Rattle.regular.proofs.Calls.{noAxis}
+use Rattle.multicubic.specs.declared.Place.{Place}
+use Rattle.multicubic.specs.Grid.{product}
+use Rattle.multicubic.specs.Place.{nowhere, placeOf}
+use Rattle.multicubic.proofs.Passed.{Passed}
+use Rattle.multicubic.proofs.Sizes.{count-within}
+use Rattle.regular_axis.specs.Place.{quotient, floorOf, refused8}
+use Rattle.grid.specs.Query.{noAxis as noGridAxis, countsOf as gridCounts}
+use Rattle.grid.specs.Internal.{PlacedOn}
+use Rattle.grid.specs.Nodes.{All}
+use Rattle.grid.proofs.Premises.{Long}
+use Rattle.grid.proofs.Sizes.{all-long, each-long}
+use Rattle.grid.proofs.Evaluating.{Roomy, roomy-place, Fit, place-here}
+use Rattle.regular.specs.Grid.{countsOf, Taken, gridAxis, gridAxes}
+use Rattle.regular.proofs.Calls.{noAxis, counts-length}
+use Rattle.regular.proofs.Sizes.{counts-taken, grid-counts, passed}
 
-pub count-at : (axes : List Axis) (j : ℕ) → getD (countsOf axes) j 0 ≡ getD axes j noAxis .count
+count-at : (axes : List Axis) (j : ℕ) → getD (countsOf axes) j 0 ≡ getD axes j noAxis .count
 count-at [] j = refl
 count-at (a ∷ axes) zero = refl
 count-at (a ∷ axes) (suc j) = count-at axes j
 
--- the place of coordinate i on axis i
-abbrev pub locAt : Format → List Axis → List Float → ℕ → Loc
-locAt f axes x i = locOf f (getD axes i noAxis .start) (getD axes i noAxis .step) (getD axes i noAxis .count) (getD x i nan)
+-- axis j of the grid
+pub axis-at : (f : Format) (straight : Bool) (n : ℕ) (axes : List Axis) (j : ℕ) → j < n → n ≤ length axes → getD (gridAxes f straight (take n axes)) j noGridAxis ≡ gridAxis f straight (getD axes j noAxis)
+axis-at f straight zero axes j h k = absurd (omega arith)
+axis-at f straight (suc n) [] j h k = absurd (omega arith)
+axis-at f straight (suc n) (a ∷ axes) zero h k = refl
+axis-at f straight (suc n) (a ∷ axes) (suc j) h k = axis-at f straight n axes j (omega arith) (omega arith)
 
--- axis i is next
-abbrev pub Going : Format → Bool → ℕ → List Axis → List Float → ℕ → List Place → Type 0
-Going f straight n axes x i kept = SoFar (find 0 (gridAxes f straight (take n axes)) (at x)) i (gridAxes f straight (slice i n axes)) (at x) kept
+axes-length : (f : Format) (straight : Bool) (axes : List Axis) → length (gridAxes f straight axes) ≡ length axes
+axes-length f straight [] = refl
+axes-length f straight (a ∷ rest) = ap suc (axes-length f straight rest)
 
-module _ (f : Format) (straight : Bool) (n : ℕ) (axes : List Axis) (x : List Float) (i : ℕ) (kept : List Place) (h : i < n) (k : n ≤ length axes) (s : Going f straight n axes x i kept) where
-  next : SoFar (find 0 (gridAxes f straight (take n axes)) (at x)) i (gridAxis f straight (getD axes i noAxis) ∷ gridAxes f straight (slice (suc i) n axes)) (at x) kept
-  next = subst (λ (rest : List Axis). SoFar (find 0 (gridAxes f straight (take n axes)) (at x)) i (gridAxes f straight rest) (at x) kept) (slice-cons i n axes noAxis h k) s
+pub axes-long : (f : Format) (straight : Bool) (n : ℕ) (axes : List Axis) → n ≤ length axes → length (gridAxes f straight (take n axes)) ≡ n
+axes-long f straight n axes h = axes-length f straight (take n axes) ∙ length-take-le n axes h
 
-  outcome-is : (loc : Loc) → loc ≡ locAt f axes x i → gridAxis f straight (getD axes i noAxis) .outcome (getD x i nan) ≡ outcomeAt (weightsAt f (getD axes i noAxis .start) (getD axes i noAxis .step) straight (getD x i nan)) (derivativesAt f (getD axes i noAxis .start) (getD axes i noAxis .step) straight (getD x i nan)) loc
-  outcome-is loc e = rw e refl
+roomy-axis : (f : Format) (straight : Bool) (a : Axis) → 4 ≤ a .count → Roomy (gridAxis f straight a)
+roomy-axis f straight a h x p e = go (refused8 (quotient f (a .start) (a .step) x)) e
+  where
+    go : (b : Bool) → cond b Unplaceable (At (placeOf (a .count) (floorOf (quotient f (a .start) (a .step) x) -ℤ pos 1))) ≡ At p → p .origin + 4 ≤ a .count
+    go true e = absurd (let y : _≡_ {A = ℕ} 0 1 = cc in omega arith)
+    go false e = roomy-place (a .count) (floorOf (quotient f (a .start) (a .step) x) -ℤ pos 1) p h e
 
-  pub next-unplaceable : Unplaceable ≡ locAt f axes x i → find 0 (gridAxes f straight (take n axes)) (at x) ≡ unplaceableAt i
-  next-unplaceable e = so-far-unplaceable _ i (at x) kept (gridAxis f straight (getD axes i noAxis)) _ next (outcome-is Unplaceable e)
+roomy-axes : (f : Format) (straight : Bool) (axes : List Axis) → Long (countsOf axes) → All Roomy (gridAxes f straight axes)
+roomy-axes f straight [] h = tt
+roomy-axes f straight (a ∷ axes) h = (roomy-axis f straight a (h .0), roomy-axes f straight axes (h .1))
 
-  pub next-placed : (p : Place) → At p ≡ locAt f axes x i → i < 4 → Going f straight n axes x (i + 1) (set kept i p)
-  next-placed p e m = rw add-one (so-far-placed _ i (at x) kept (gridAxis f straight (getD axes i noAxis)) _ _ next m (outcome-is (At p) e))
+-- a grid that is taken
+module _ (f : Format) (straight : Bool) (n : ℕ) (axes : List Axis) (four : length axes ≡ 4) (taken : Taken n axes) where
+  sizes : Passed n (countsOf axes) (taken .0) Regular
+  sizes = passed n axes (taken .0) (taken .1)
 
-pub all-placed : (f : Format) (straight : Bool) (n : ℕ) (axes : List Axis) (x : List Float) (i : ℕ) (kept : List Place) (number : ℕ) → i ≡ n → Going f straight n axes x i kept
-    → Located number (gridAxes f straight (take n axes)) (at x) (record { outcome = Accepted; places = kept })
-all-placed f straight n axes x i kept number e s =
-    so-far-all (find 0 (gridAxes f straight (take n axes)) (at x)) i (at x) kept number
-    (subst (λ (rest : List Axis). SoFar (find 0 (gridAxes f straight (take n axes)) (at x)) i (gridAxes f straight rest) (at x) kept) (ap (λ (k : ℕ). slice k n axes) e ∙ slice-empty n axes) s)
+  pub counts-are : gridCounts (gridAxes f straight (take n axes)) ≡ take n (countsOf axes)
+  counts-are = grid-counts f straight (take n axes) ∙ counts-taken n axes
+
+  pub fit : Fit n (gridAxes f straight (take n axes)) (taken .0)
+  fit = record {
+    some = sizes .some;
+    few = sizes .few;
+    counted = let few = sizes .few in axes-long f straight n axes (omega arith);
+    roomy = roomy-axes f straight (take n axes) (subst Long (sym (counts-taken n axes)) (all-long (take n (countsOf axes)) (sizes .long)));
+    size = sizes .values-is ∙ ap product (sym counts-are);
+  }
+
+  module _ (j : ℕ) (h : j < n) where
+    pub long-at : 4 ≤ getD axes j noAxis .count
+    long-at = rw (← count-at axes j) (each-long n (countsOf axes) (taken .0) Regular sizes (counts-length axes ∙ four) j h)
+
+    pub axis-is : getD (gridAxes f straight (take n axes)) j noGridAxis ≡ gridAxis f straight (getD axes j noAxis)
+    axis-is = let few = sizes .few in axis-at f straight n axes j h (omega arith)
+
+    -- it fits a u32
+    pub origin-small : (query : ℕ → Float) (places : List Place) → PlacedOn (gridAxes f straight (take n axes)) query places → getD places j nowhere .origin < 4096
+    origin-small query places on =
+        let most : getD axes j noAxis .count ≤ 4096 = rw (← count-at axes j) (count-within n (countsOf axes) j h (sizes .within)) in
+        let room : getD places j nowhere .origin + 4 ≤ getD axes j noAxis .count = roomy-axis f straight (getD axes j noAxis) long-at (query j) (getD places j nowhere) (ap (λ g. g .loc (query j)) (sym axis-is) ∙ place-here fit query places on j h) in
+        omega arith

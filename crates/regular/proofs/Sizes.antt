@@ -21,7 +21,7 @@ counts-taken zero axes = refl
 counts-taken (suc n) [] = refl
 counts-taken (suc n) (a ∷ axes) = ap (λ (cs : List ℕ). a .count ∷ cs) (counts-taken n axes)
 
-grid-counts : (f : Format) (straight : Bool) (axes : List Axis) → Query.countsOf (gridAxes f straight axes) ≡ countsOf axes
+pub grid-counts : (f : Format) (straight : Bool) (axes : List Axis) → Query.countsOf (gridAxes f straight axes) ≡ countsOf axes
 grid-counts f straight [] = refl
 grid-counts f straight (a ∷ axes) = ap (λ (cs : List ℕ). a .count ∷ cs) (grid-counts f straight axes)
 

@@ -1,5 +1,6 @@
 -- 01, "The grid, taken or turned away", regular: an axis is its start, its step and its count.
 use Prim.Native.Nat.{ℕ}
+use mathlib.Core.Path.{_≡_}
 use mathlib.Core.Bool.{Bool, not}
 use mathlib.Core.List.{List, map}
 use lib.ListN.{length, take}
@@ -9,10 +10,12 @@ use Rattle.multicubic.specs.declared.Axis.{Axis}
 use Rattle.multicubic.specs.declared.AxesLength.the-variants.{Regular}
 use Rattle.multicubic.specs.declared.EdgeMode.{EdgeMode}
 use Rattle.multicubic.specs.declared.Outcome.{Outcome}
+use Rattle.multicubic.specs.declared.Outcome.the-variants.{Accepted}
 use Rattle.multicubic.specs.Grid.{lowest, _then_, sizeChecks}
 use Rattle.multicubic.specs.Place.{straightOf}
+use Rattle.regular_axis.specs.Place.{locOf}
 use Rattle.regular_axis.specs.Weights.{node}
-use Rattle.regular_axis.specs.Nodes.{Premises, outcomeOf}
+use Rattle.regular_axis.specs.Nodes.{Premises, weightsAt, derivativesAt}
 use Rattle.grid.specs.Query.{GridAxis, Grid}
 use Rattle.grid.specs.Nodes.{All}
 
@@ -27,10 +30,16 @@ countsOf axes = map (λ (a : Axis). a .count) axes
 abbrev pub checksOf : ℕ → List Axis → ℕ → Outcome
 checksOf n axes values = sizeChecks n (countsOf axes) values Regular then lowest 5 notRising 0 (take n axes)
 
+-- accepted with some number of values
+abbrev pub Taken : ℕ → List Axis → Type 0
+Taken n axes = (values : ℕ) × (checksOf n axes values ≡ Accepted)
+
 abbrev pub gridAxis : Format → Bool → Axis → GridAxis
 gridAxis f straight a = record {
   count = a .count;
-  outcome = outcomeOf f (a .start) (a .step) (a .count) straight;
+  loc = locOf f (a .start) (a .step) (a .count);
+  weights = weightsAt f (a .start) (a .step) straight;
+  derivatives = derivativesAt f (a .start) (a .step) straight;
   node = node f (a .start) (a .step);
 }
 

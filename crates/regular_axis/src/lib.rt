@@ -3,12 +3,14 @@ ghost use mathlib.Core.Path.{_≡_};
 ghost use Prim.Native.Nat.{suc, _≤_, _<_};
 ghost use lib.Ieee.{binary64};
 ghost use Rattle.regular_axis.specs.Place.{locOf};
+ghost use Rattle.regular_axis.specs.Nodes.{weightsAt, derivativesAt};
 ghost use Rattle.regular_axis.specs.Weights.{node, tOf, interior, cubicEnd, atLow, atHigh, endOf, endSlopeOf, weightsOf, derivativesOf};
 use interp_math::hermite_basis;
 use interp_math::hermite_basis_derivative;
 use interp_math::scale_weights;
 use multicubic::Axis;
 use multicubic::Loc;
+use multicubic::Place;
 use multicubic::Saturation;
 use multicubic::place_from;
 
@@ -33,7 +35,7 @@ pub fn get_loc(axis: Axis, v: f64) -> Loc
 }
 
 // The block's point 1.
-pub fn index_one_loc(axis: Axis, origin: usize) -> f64
+fn index_one_loc(axis: Axis, origin: usize) -> f64
     requires { ⌜ origin < 4096 ⌝ }
     ensures { λ r. ⌜ r ≡ node binary64 (axis .start) (axis .step) (suc origin) ⌝ }
 {
@@ -41,7 +43,7 @@ pub fn index_one_loc(axis: Axis, origin: usize) -> f64
 }
 
 // v relative to the block's point 1, in steps.
-pub fn local_t(axis: Axis, origin: usize, v: f64) -> f64
+fn local_t(axis: Axis, origin: usize, v: f64) -> f64
     requires { ⌜ origin < 4096 ⌝ }
     ensures { λ r. ⌜ r ≡ tOf binary64 (axis .start) (axis .step) origin v ⌝ }
 {
@@ -129,7 +131,7 @@ fn high_weight_derivatives(t: f64, linearize_extrapolation: bool) -> [f64; 4]
 }
 
 // The four weights of a block, by the class of the query's place.
-pub fn interp_weights(t: f64, sat: Saturation, linearize_extrapolation: bool) -> [f64; 4]
+fn interp_weights(t: f64, sat: Saturation, linearize_extrapolation: bool) -> [f64; 4]
     ensures { λ r. ⌜ r ≡ weightsOf binary64 sat «linearize_extrapolation» t ⌝ }
 {
     match sat {
@@ -142,7 +144,7 @@ pub fn interp_weights(t: f64, sat: Saturation, linearize_extrapolation: bool) ->
 }
 
 // Their derivatives by the query.
-pub fn interp_weight_derivatives(
+fn interp_weight_derivatives(
     t: f64,
     sat: Saturation,
     linearize_extrapolation: bool,
@@ -163,4 +165,24 @@ pub fn interp_weight_derivatives(
             inv_step,
         ),
     }
+}
+
+// The weights of v's block at its place.
+pub fn weights_at(axis: Axis, v: f64, place: Place, linearize_extrapolation: bool) -> [f64; 4]
+    requires { ⌜ place .origin < 4096 ⌝ }
+    ensures { λ r. ⌜ r ≡ weightsAt binary64 (axis .start) (axis .step) «linearize_extrapolation» v place ⌝ }
+{
+    let class = place.class;
+    let t = local_t(axis, place.origin, v);
+    interp_weights(t, class, linearize_extrapolation)
+}
+
+// Its derivative weights.
+pub fn derivatives_at(axis: Axis, v: f64, place: Place, linearize_extrapolation: bool) -> [f64; 4]
+    requires { ⌜ place .origin < 4096 ⌝ }
+    ensures { λ r. ⌜ r ≡ derivativesAt binary64 (axis .start) (axis .step) «linearize_extrapolation» v place ⌝ }
+{
+    let class = place.class;
+    let t = local_t(axis, place.origin, v);
+    interp_weight_derivatives(t, class, linearize_extrapolation, 1.0 / axis.step)
 }

@@ -9,7 +9,6 @@ use Rattle.multicubic.specs.Place.{straightOf}
 use Rattle.grid.specs.Query.{at}
 use Rattle.grid.proofs.Locating.{place-refused, place-found}
 use Rattle.rectilinear.specs.Grid.{gridOf}
-use Rattle.rectilinear.proofs.Sizes.{locatable}
 use Rattle.rectilinear.proofs.get_loc.Statement.{statement}
 use Rattle.rectilinear.proofs.get_loc.Tie as tie
 
@@ -23,11 +22,7 @@ enum-told : tie.Need-enum-told
 enum-told c = search needs
 
 locate-requires : tie.Need-locate-requires
-locate-requires c κs =
-    let s = c .before .before .before .before .before in
-    let a = s .args in
-    let o = locatable (a .axis-count) (a .counts) (now (a .axes)) (length (now (a .vals))) (s .good .1 .0 .1 .0 .1) (sym (c .before .before .new .ensures) ∙ c .enum-told .given .1) in
-    (o .0, (o .1, (o .2, o .3)))
+locate-requires c κs = (length (now (c .before .before .before .before .before .args .vals)), sym (c .before .before .new .ensures) ∙ c .enum-told .given .1)
 
 nowhere-requires : tie.Need-nowhere-requires
 nowhere-requires c κs = search needs

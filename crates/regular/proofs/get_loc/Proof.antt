@@ -4,15 +4,11 @@ use lib.ListN.{length}
 use lib.Ieee.{binary64}
 use denote.Ref.{now}
 use borrow.Author.Needs.{needs}
-use Rattle.multicubic.specs.declared.AxesLength.the-variants.{Regular}
 use Rattle.multicubic.specs.declared.EdgeMode.{EdgeMode}
 use Rattle.multicubic.specs.Place.{straightOf}
 use Rattle.grid.specs.Query.{at}
-use Rattle.grid.proofs.Sizes.{each-long}
 use Rattle.grid.proofs.Locating.{place-refused, place-found}
-use Rattle.regular.specs.Grid.{countsOf, gridOf}
-use Rattle.regular.proofs.Sizes.{passed}
-use Rattle.regular.proofs.Calls.{counts-length}
+use Rattle.regular.specs.Grid.{gridOf}
 use Rattle.regular.proofs.get_loc.Statement.{statement}
 use Rattle.regular.proofs.get_loc.Tie as tie
 
@@ -26,10 +22,7 @@ enum-told : tie.Need-enum-told
 enum-told c = search needs
 
 locate-requires : tie.Need-locate-requires
-locate-requires c κs =
-    let a = c .before .before .before .before .args in
-    let p = passed (a .axis-count) (a .axes) (length (now (a .vals))) (sym (c .before .before .new .ensures) ∙ c .enum-told .given .1) in
-    (p .few, each-long (a .axis-count) (countsOf (a .axes)) (length (now (a .vals))) Regular p (counts-length (a .axes) ∙ c .before .before .before .before .good .1 .0 .1 .0 .1))
+locate-requires c κs = (length (now (c .before .before .before .before .args .vals)), sym (c .before .before .new .ensures) ∙ c .enum-told .given .1)
 
 nowhere-requires : tie.Need-nowhere-requires
 nowhere-requires c κs = search needs

@@ -1,14 +1,15 @@
 -- `locate` meets its contract. Assumes nothing.
-use Prim.Native.Nat.{ℕ, _≤_, _<_, _-_}
+use Prim.Native.Nat.{_≤_, _-_}
 use mathlib.Core.Path.{_≡_, _∙_, sym, refl, ap}
-use mathlib.Core.Bool.{Bool}
+use mathlib.Core.Bool.{Bool, true}
 use native.Mathlib.Omega.{arith}
-use lib.ListN.{length, getD, length-set}
-use lib.Ieee.{binary64}
+use lib.ListN.{length, getD, take, length-set}
+use lib.Ieee.{nan, binary64}
 use borrow.Author.Needs.{needs}
-use Rattle.grid.proofs.Locating.{so-far-none}
-use Rattle.regular.specs.Grid.{countsOf}
-use Rattle.regular.proofs.Locating.{count-at, Going, next-unplaceable, next-placed, all-placed}
+use Rattle.grid.specs.Query.{at}
+use Rattle.grid.proofs.Locating.{SoFar, so-far-none, so-far-placed, so-far-unplaceable, so-far-all}
+use Rattle.regular.specs.Grid.{Taken, gridAxes}
+use Rattle.regular.proofs.Locating.{fit, long-at, axis-is}
 use Rattle.regular.proofs.locate.Statement.{statement}
 use Rattle.regular.proofs.locate.Tie as tie
 
@@ -19,8 +20,8 @@ Inv-loop axis-count query axes x places₀ i₀ places i =
     × (length axes ≡ 4)
     × (length x ≡ 4)
     × (length places ≡ 4)
-    × ((j : ℕ) → j < axis-count → 4 ≤ getD (countsOf axes) j 0)
-    × ((straight : Bool) → Going binary64 straight axis-count axes x i places)
+    × Taken axis-count axes
+    × ((straight : Bool) → SoFar (gridAxes binary64 straight (take axis-count axes)) (at x) i places)
 
 abbrev μ-loop : tie.MeasureT-loop
 μ-loop axis-count query axes x places₀ i₀ places i = axis-count - i
@@ -32,7 +33,8 @@ loop-holds : tie.Need-loop-holds Inv-loop μ-loop
 loop-holds c =
     let s = c .before in
     let e = c .nowhere .ensures in
-    (search needs, s .pre .0, s .good .1 .0 .1 .0 .1, s .good .1 .1 .0 .1 .0 .1, ap length e, s .pre .1, λ straight. so-far-none _ _ _ e)
+    let four = s .good .1 .0 .1 .0 .1 in
+    (search needs, fit binary64 true (s .args .axis-count) (s .args .t2) four (s .pre) .few, four, s .good .1 .1 .0 .1 .0 .1, ap length e, s .pre, λ straight. so-far-none _ _ _ e)
 
 mul-get-loc : tie.Need-mul-get-loc Inv-loop μ-loop
 mul-get-loc c = omega arith
@@ -50,7 +52,7 @@ get-loc-requires : tie.Need-get-loc-requires Inv-loop μ-loop
 get-loc-requires c κs =
     let l = c .before .before .loop in
     let a = c .before .before .before .before .args in
-    rw (← count-at (a .t2) (l .i)) (l .inv .5 (l .i) (c .before .loop-test .taken))
+    long-at binary64 true (a .axis-count) (a .t2) (l .inv .2) (l .inv .5) (l .i) (c .before .loop-test .taken)
 
 enum-told : tie.Need-enum-told Inv-loop μ-loop
 enum-told c = search needs
@@ -62,7 +64,10 @@ returns : tie.Need-returns Inv-loop μ-loop
 returns c straight =
     let l = c .before .before .before .before .before .before .loop in
     let a = c .before .before .before .before .before .before .before .before .args in
-    let e = next-unplaceable binary64 straight (a .axis-count) (a .t2) (a .t3) (l .i) (l .places) (c .before .before .before .before .before .loop-test .taken) (omega arith) (l .inv .6 straight) (sym (c .before .enum-told .given .1) ∙ c .before .before .before .get-loc .ensures) in
+    let h = c .before .before .before .before .before .loop-test .taken in
+    let gs = gridAxes binary64 straight (take (a .axis-count) (a .t2)) in
+    let loc = sym (c .before .enum-told .given .1) ∙ c .before .before .before .get-loc .ensures ∙ ap (λ g. g .loc (getD (a .t3) (l .i) nan)) (sym (axis-is binary64 straight (a .axis-count) (a .t2) (l .inv .2) (l .inv .5) (l .i) h)) in
+    let e = so-far-unplaceable gs (at (a .t3)) (l .places) (l .i) (l .inv .6 straight) (rw (fit binary64 straight (a .axis-count) (a .t2) (l .inv .2) (l .inv .5) .counted) h) loc in
     (rw e refl, c .nowhere2 .ensures ∙ rw e refl)
 
 enum-known-loc : tie.Need-enum-known-loc Inv-loop μ-loop
@@ -84,13 +89,24 @@ loop-again : tie.Need-loop-again Inv-loop μ-loop
 loop-again c =
     let l = c .before .before .before .before .before .before .loop in
     let a = c .before .before .before .before .before .before .before .before .args in
-    (omega arith, l .inv .1, l .inv .2, l .inv .3, rw length-set (l .inv .4), l .inv .5, λ straight. next-placed binary64 straight (a .axis-count) (a .t2) (a .t3) (l .i) (l .places) (c .before .before .before .before .before .loop-test .taken) (omega arith) (l .inv .6 straight) _ (sym (c .before .loc .given .1) ∙ c .before .before .before .get-loc .ensures) (omega arith))
+    let h = c .before .before .before .before .before .loop-test .taken in
+    let loc : (straight : Bool) → _ =
+    λ straight. sym (c .before .loc .given .1) ∙ c .before .before .before .get-loc .ensures ∙ ap (λ g. g .loc (getD (a .t3) (l .i) nan)) (sym (axis-is binary64 straight (a .axis-count) (a .t2) (l .inv .2) (l .inv .5) (l .i) h)) in (
+      omega arith,
+      l .inv .1,
+      l .inv .2,
+      l .inv .3,
+      rw length-set (l .inv .4),
+      l .inv .5,
+      λ straight. so-far-placed (gridAxes binary64 straight (take (a .axis-count) (a .t2))) (at (a .t3)) (l .places) (l .i) (l .inv .6 straight) (rw (fit binary64 straight (a .axis-count) (a .t2) (l .inv .2) (l .inv .5) .counted) h) _ (omega arith) (loc straight),
+    )
 
 returns-2 : tie.Need-returns-2 Inv-loop μ-loop
 returns-2 c straight =
     let l = c .before .loop in
     let a = c .before .before .before .args in
-    all-placed binary64 straight (a .axis-count) (a .t2) (a .t3) (l .i) (l .places) (a .query) (omega arith) (l .inv .6 straight)
+    let e : l .i ≡ a .axis-count = omega arith in
+    so-far-all (gridAxes binary64 straight (take (a .axis-count) (a .t2))) (at (a .t3)) (l .places) (l .i) (l .inv .6 straight) (e ∙ sym (fit binary64 straight (a .axis-count) (a .t2) (l .inv .2) (l .inv .5) .counted)) (a .query)
 
 pub locate-spec : {M : Type 1} → statement M
 locate-spec =

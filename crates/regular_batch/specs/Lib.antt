@@ -1,0 +1,1 @@
+-- A batch on a regular grid is defined in `grid`, over the axes of `regular`.
