@@ -1,0 +1,1 @@
+-- The functions' proofs alone.

@@ -1,0 +1,2 @@
+-- The grids that a C program lends.
+pub mod Grids

@@ -1,0 +1,237 @@
+// Runs 01's cases that are only run, each refusal with its place, and what is easily missed.
+// One line for each case, and how many agree.
+use cases_calls::Score;
+use cases_calls::answered;
+use cases_calls::clear;
+use cases_calls::cubic;
+use cases_calls::rectilinear;
+use cases_calls::rectilinear_refused_order;
+use cases_calls::refused_batch;
+use cases_calls::regular;
+use cases_calls::taken;
+use cases_calls::told;
+use cases_calls::walk;
+use cases_calls::with_buffers;
+use cases_calls::zeros;
+use cases_refusals::refusals;
+use replay_batches::marked_words;
+use replay_batches::run_interp;
+use replay_batches::run_interp_grad;
+use replay_calls::same_single;
+use replay_corpus::Expected;
+use replay_corpus::Group;
+use replay_corpus::part;
+use replay_report::say;
+use replay_report::say_number;
+
+// 01's numbers, which hold on both kinds: at 1.5 3.375, slope 6.25; at 4 as given.
+fn cubes_on(s: Score, g: Group, value: u64, slope: u64, at_1_5: &[u8], at_4: &[u8]) -> Score {
+    let x = [0.0, 1.0, 2.0, 3.0];
+    let v = [0.0, 1.0, 8.0, 27.0];
+    let s = answered(
+        s,
+        g,
+        &x,
+        &v,
+        1.5,
+        0,
+        0x400B_0000_0000_0000,
+        0x4019_0000_0000_0000,
+        at_1_5,
+    );
+    answered(s, g, &x, &v, 4.0, 4, value, slope, at_4)
+}
+
+// Linearised at 4: 52, slope 25. Cubic: 58, and the slope 37, which 01 does not give.
+fn cubes(s: Score) -> Score {
+    let g = regular(1, 4, 0, 0, 1.0, 1.0);
+    let h = rectilinear(1, 4, 0, 0);
+    let v = 0x404A_0000_0000_0000;
+    let d = 0x4039_0000_0000_0000;
+    let cubic_v = 0x404D_0000_0000_0000;
+    let cubic_d = 0x4042_8000_0000_0000;
+    let s = cubes_on(s, g, v, d, b"regular, at 1.5", b"regular, at 4");
+    let s = cubes_on(
+        s,
+        cubic(g),
+        cubic_v,
+        cubic_d,
+        b"regular, at 1.5, cubic",
+        b"regular, at 4, cubic",
+    );
+    let s = cubes_on(s, h, v, d, b"rectilinear, at 1.5", b"rectilinear, at 4");
+    cubes_on(
+        s,
+        cubic(h),
+        cubic_v,
+        cubic_d,
+        b"rectilinear, at 1.5, cubic",
+        b"rectilinear, at 4, cubic",
+    )
+}
+
+fn not_numbers(s: Score) -> Score {
+    let vals = [0.0 / 0.0; 4];
+    let entries = [0.0, 1.0, 2.0, 3.0];
+    let nan = 0x7FF8_0000_0000_0000;
+    let s = answered(
+        s,
+        regular(1, 4, 0, 0, 1.0, 1.0),
+        &entries,
+        &vals,
+        1.5,
+        0,
+        nan,
+        nan,
+        b"regular, all NaN",
+    );
+    answered(
+        s,
+        rectilinear(1, 4, 0, 0),
+        &entries,
+        &vals,
+        1.5,
+        0,
+        nan,
+        nan,
+        b"rectilinear, all NaN",
+    )
+}
+
+// Refusal 6, on two axes of four entries.
+fn rectilinear_order(s: Score, z: &[f64]) -> Score {
+    let nan = 0.0 / 0.0;
+    let below = [0.0, 1.0, 2.0, 3.0, 0.0, 1.0, 2.0, 1.0];
+    let nan_2 = [0.0, 1.0, nan, 3.0, 0.0, 1.0, 2.0, 1.0];
+    let same = [0.0, 1.0, 1.0, 1.0, 0.0, 1.0, 2.0, 2.0];
+    let s = rectilinear_refused_order(s, below, 6, 1, b"rectilinear, 6: entry 3 below on axis 1");
+    let s = rectilinear_refused_order(s, nan_2, 6, 0, b"rectilinear, 6: entry 2 NaN");
+    let vals = part(z, 0, 16);
+    taken(
+        s,
+        rectilinear(2, 4, 4, 0),
+        &same,
+        vals,
+        b"rectilinear, equal neighbours after entry 1",
+    )
+}
+
+// Refusal 7: too many or too few queries, and a buffer that the axis count does not divide.
+fn regular_batches(s: Score, z: &[f64]) -> Score {
+    let g = with_buffers(regular(1, 4, 0, 0, 1.0, 1.0), 2, 2);
+    let wide = with_buffers(regular(2, 4, 4, 0, 1.0, 1.0), 3, 3);
+    let vals = part(z, 0, 4);
+    let s = refused_batch(s, g, z, vals, part(z, 0, 3), b"regular, 7: 3 queries for 2");
+    let s = refused_batch(s, g, z, vals, part(z, 0, 1), b"regular, 7: 1 query for 2");
+    refused_batch(
+        s,
+        wide,
+        z,
+        part(z, 0, 16),
+        vals,
+        b"regular, 7: 3 entries on 2 axes",
+    )
+}
+
+fn rectilinear_batches(s: Score, z: &[f64]) -> Score {
+    let g = with_buffers(rectilinear(1, 4, 0, 0), 2, 2);
+    let wide = with_buffers(rectilinear(2, 4, 4, 0), 3, 3);
+    let entries = [0.0, 1.0, 2.0, 3.0, 0.0, 1.0, 2.0, 3.0];
+    let four = part(&entries, 0, 4);
+    let vals = part(z, 0, 4);
+    let s = refused_batch(
+        s,
+        g,
+        four,
+        vals,
+        part(z, 0, 3),
+        b"rectilinear, 7: 3 queries for 2",
+    );
+    let s = refused_batch(
+        s,
+        g,
+        four,
+        vals,
+        part(z, 0, 1),
+        b"rectilinear, 7: 1 query for 2",
+    );
+    refused_batch(
+        s,
+        wide,
+        &entries,
+        part(z, 0, 16),
+        vals,
+        b"rectilinear, 7: 3 entries on 2 axes",
+    )
+}
+
+// Refusal 8 of a single query, on the lower of two such axes.
+fn unplaceable(s: Score, z: &[f64]) -> Score {
+    let e = Expected {
+        state: 0,
+        number: 8,
+        axis: 1,
+        places: [0; 4],
+        value: 0,
+        gradient: [0; 4],
+        next: 0,
+    };
+    let g = regular(3, 4, 4, 4, 1.0, 1.0);
+    let x = [1.5, 9223372036854775808.0, 0.0 / 0.0, 1.5];
+    let t = same_single(clear(), g, z, part(z, 0, 64), x, e);
+    told(s, t, b"regular, 8: axis 1 of a single query")
+}
+
+// Refusal 8 in the middle of a batch: the earlier query's entries hold its answers, all others their contents.
+fn stopped(s: Score, z: &[f64]) -> Score {
+    let vals = [
+        0.0,
+        0.0,
+        0.0,
+        0.0,
+        1.0,
+        1.0,
+        1.0,
+        1.0,
+        8.0,
+        8.0,
+        8.0,
+        8.0,
+        27.0,
+        27.0,
+        27.0,
+        27.0,
+    ];
+    let far = 9223372036854775808.0;
+    let queries = [1.5, 1.5, far, 1.5, far, 1.5];
+    let g = with_buffers(regular(2, 4, 4, 0, 1.0, 1.0), 3, 6);
+    let mut values = marked_words();
+    values[0] = 0x400B_0000_0000_0000;
+    let mut slopes = marked_words();
+    slopes[0] = 0x4019_0000_0000_0000;
+    slopes[3] = 0;
+    let t = run_interp(g, z, &vals, &queries, walk(clear(), 8, 1, 1), &values);
+    let t = run_interp_grad(g, z, &vals, &queries, walk(t, 8, 1, 1), &slopes);
+    told(s, t, b"regular, 8: query 1 of a batch, axis 1")
+}
+
+fn all(s: Score, z: &[f64]) -> Score {
+    let s = cubes(s);
+    let s = not_numbers(s);
+    let s = refusals(s);
+    let s = rectilinear_order(s, z);
+    let s = regular_batches(s, z);
+    let s = rectilinear_batches(s, z);
+    let s = unplaceable(s, z);
+    stopped(s, z)
+}
+
+fn main() {
+    let zeros = zeros();
+    let s = all(Score { agree: 0, all: 0 }, &zeros);
+    say(b"cases: ");
+    say_number(s.agree);
+    say(b" of ");
+    say_number(s.all);
+    say(b" agree\n");
+}

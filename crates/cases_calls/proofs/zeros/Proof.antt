@@ -1,0 +1,12 @@
+-- `zeros` meets its contract. Assumes nothing.
+use mathlib.Core.Path.{sym}
+use lib.ListN.{length-replicate}
+use lib.Ieee.{Float, binary64, ofBits}
+use Rattle.cases_calls.proofs.zeros.Statement.{statement}
+use Rattle.cases_calls.proofs.zeros.Tie as tie
+
+returns : tie.Need-returns
+returns c = sym (length-replicate {0} {A = Float} 8192 (ofBits binary64 0))
+
+pub zeros-spec : {M : Type 1} → statement M
+zeros-spec = tie.close (tie.spec returns)

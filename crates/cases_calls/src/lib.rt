@@ -1,0 +1,312 @@
+// What the program `cases` makes a case of: grids, and the calls of a case with their comparison and its line.
+ghost use mathlib.Core.Path.{_≡_};
+ghost use lib.ListN.{length};
+use multicubic::Axis;
+use multicubic::EdgeMode;
+use replay_batches::Walk;
+use replay_batches::marked_words;
+use replay_batches::run_interp;
+use replay_batches::run_interp_grad;
+use replay_calls::NEW;
+use replay_calls::call_new;
+use replay_calls::same_outcome;
+use replay_calls::same_single;
+use replay_corpus::Expected;
+use replay_corpus::Group;
+use replay_corpus::part;
+use replay_report::say;
+use replay_report::say_difference_in;
+use replay_words::Tally;
+
+// How many cases there were, and how many of them agree.
+pub struct Score {
+    pub agree: u64,
+    pub all: u64,
+}
+
+// Writes the line of a case.
+pub fn told(s: Score, t: Tally, name: &[u8]) -> Score {
+    let mut r = s;
+    r.all = std::num::wrapping_add_u64(s.all, 1);
+    if t.state == 0 {
+        say(b"ok ");
+        say(name);
+        r.agree = std::num::wrapping_add_u64(s.agree, 1);
+    } else {
+        say(b"DIFFERS ");
+        say(name);
+        say(b": ");
+        say_difference_in(t);
+    }
+    say(b"\n");
+    r
+}
+
+pub fn clear() -> Tally {
+    Tally {
+        state: 0,
+        groups: 0,
+        queries: 0,
+        comparisons: 0,
+        query: 0,
+        call: 0,
+        item: 0,
+        place: 0,
+        expected: 0,
+        found: 0,
+    }
+}
+
+pub fn walk(t: Tally, number: u64, query: u64, axis: u64) -> Walk {
+    Walk {
+        tally: t,
+        at: 0,
+        number,
+        query,
+        axis,
+    }
+}
+
+fn axis(step: f64, count: usize) -> Axis {
+    Axis {
+        start: 0.0,
+        step,
+        count,
+    }
+}
+
+// A grid, with buffers for two queries on two axes.
+fn grid(mode: EdgeMode, rectilinear: bool, n: usize, counts: [usize; 4], axes: [Axis; 4]) -> Group {
+    Group {
+        state: 0,
+        rectilinear,
+        mode,
+        n,
+        counts,
+        axes,
+        joined_at: 0,
+        joined: 0,
+        vals_at: 0,
+        vals: 0,
+        number: 0,
+        axis: 0,
+        count: 2,
+        queries_at: 0,
+        entries: 4,
+        answers_at: 0,
+    }
+}
+
+// A regular grid from 0 on; the third axis has the step 1.
+pub fn regular(n: usize, c0: usize, c1: usize, c2: usize, s0: f64, s1: f64) -> Group {
+    let axes = [axis(s0, c0), axis(s1, c1), axis(1.0, c2), axis(1.0, 4)];
+    grid(EdgeMode::Straight, false, n, [0; 4], axes)
+}
+
+pub fn rectilinear(n: usize, c0: usize, c1: usize, c2: usize) -> Group {
+    let none = axis(0.0, 0);
+    grid(EdgeMode::Straight, true, n, [c0, c1, c2, 4], [none; 4])
+}
+
+pub fn cubic(g: Group) -> Group {
+    let counts = g.counts;
+    let axes = g.axes;
+    grid(EdgeMode::Cubic, g.rectilinear, g.n, counts, axes)
+}
+
+// The same grid with buffers of other lengths.
+pub fn with_buffers(g: Group, count: usize, entries: usize) -> Group {
+    let mut r = g;
+    r.count = count;
+    r.entries = entries;
+    r
+}
+
+// Every one of the six calls gives the refusal, and the buffers keep their contents.
+fn refused(
+    s: Score,
+    g: Group,
+    axes: &[f64],
+    vals: &[f64],
+    number: u64,
+    axis: u64,
+    name: &[u8],
+) -> Score {
+    let e = Expected {
+        state: 0,
+        number,
+        axis,
+        places: [0; 4],
+        value: 0,
+        gradient: [0; 4],
+        next: 0,
+    };
+    let before = marked_words();
+    let t = same_outcome(clear(), NEW, number, 0, axis, call_new(g, axes, vals));
+    let t = same_single(t, g, axes, vals, [0.5; 4], e);
+    let t = run_interp(g, axes, vals, &[0.5; 2], walk(t, number, 0, axis), &before);
+    let t = run_interp_grad(g, axes, vals, &[0.5; 4], walk(t, number, 0, axis), &before);
+    told(s, t, name)
+}
+
+// Both batches are refused by check 7, and the buffers keep their contents.
+pub fn refused_batch(
+    s: Score,
+    g: Group,
+    axes: &[f64],
+    vals: &[f64],
+    queries: &[f64],
+    name: &[u8],
+) -> Score {
+    let before = marked_words();
+    let t = same_outcome(clear(), NEW, 0, 0, 0, call_new(g, axes, vals));
+    let t = run_interp(g, axes, vals, queries, walk(t, 7, 0, 0), &before);
+    let t = run_interp_grad(g, axes, vals, queries, walk(t, 7, 0, 0), &before);
+    told(s, t, name)
+}
+
+// `new` takes the grid, and both batches take no queries.
+pub fn taken(s: Score, g: Group, axes: &[f64], vals: &[f64], name: &[u8]) -> Score {
+    let before = marked_words();
+    let none = with_buffers(g, 0, 0);
+    let t = same_outcome(clear(), NEW, 0, 0, 0, call_new(g, axes, vals));
+    let t = run_interp(
+        none,
+        axes,
+        vals,
+        part(axes, 0, 0),
+        walk(t, 0, 0, 0),
+        &before,
+    );
+    let t = run_interp_grad(
+        none,
+        axes,
+        vals,
+        part(axes, 0, 0),
+        walk(t, 0, 0, 0),
+        &before,
+    );
+    told(s, t, name)
+}
+
+// A query on one axis is answered: its place as origin * 8 + class, its value, its slope.
+pub fn answered(
+    s: Score,
+    g: Group,
+    axes: &[f64],
+    vals: &[f64],
+    x: f64,
+    place: u64,
+    value: u64,
+    slope: u64,
+    name: &[u8],
+) -> Score {
+    let e = Expected {
+        state: 0,
+        number: 0,
+        axis: 0,
+        places: [place, 0, 0, 0],
+        value,
+        gradient: [slope, 0, 0, 0],
+        next: 0,
+    };
+    let mut values = marked_words();
+    values[0] = value;
+    let mut slopes = marked_words();
+    slopes[0] = slope;
+    let one = with_buffers(g, 1, 1);
+    let t = same_outcome(clear(), NEW, 0, 0, 0, call_new(g, axes, vals));
+    let t = same_single(t, g, axes, vals, [x, 0.0, 0.0, 0.0], e);
+    let t = run_interp(one, axes, vals, &[x], walk(t, 0, 0, 0), &values);
+    let t = run_interp_grad(one, axes, vals, &[x], walk(t, 0, 0, 0), &slopes);
+    told(s, t, name)
+}
+
+pub fn zeros() -> [f64; 8192]
+    ensures { λ r. ⌜ 8192 ≡ length r ⌝ }
+{
+    [0.0; 8192]
+}
+
+// 0, 1, 2, ..
+fn rising() -> [f64; 4096]
+    ensures { λ r. ⌜ 4096 ≡ length r ⌝ }
+{
+    let mut out = [0.0; 4096];
+    let mut x = 0.0;
+    let mut i: usize = 0;
+    while i < 4096 {
+        out[i] = x;
+        x += 1.0;
+        i += 1;
+    }
+    out
+}
+
+// The same of a regular grid with so many values.
+pub fn regular_refused(
+    s: Score,
+    n: usize,
+    counts: [usize; 3],
+    steps: [f64; 2],
+    values: usize,
+    number: u64,
+    axis: u64,
+    name: &[u8],
+) -> Score {
+    let g = regular(n, counts[0], counts[1], counts[2], steps[0], steps[1]);
+    let zeros = zeros();
+    let vals = part(&zeros, 0, values);
+    refused(s, g, part(&zeros, 0, 0), vals, number, axis, name)
+}
+
+// And of a rectilinear grid with so many entries in its joined axes.
+pub fn rectilinear_refused(
+    s: Score,
+    n: usize,
+    counts: [usize; 3],
+    entries: usize,
+    values: usize,
+    number: u64,
+    axis: u64,
+    name: &[u8],
+) -> Score {
+    let g = rectilinear(n, counts[0], counts[1], counts[2]);
+    let zeros = zeros();
+    let vals = part(&zeros, 0, values);
+    refused(s, g, part(&zeros, 0, entries), vals, number, axis, name)
+}
+
+// One axis is taken.
+pub fn regular_taken(s: Score, count: usize, name: &[u8]) -> Score {
+    let g = regular(1, count, 0, 0, 1.0, 1.0);
+    let zeros = zeros();
+    taken(s, g, part(&zeros, 0, 0), part(&zeros, 0, count), name)
+}
+
+pub fn rectilinear_taken(s: Score, count: usize, name: &[u8]) -> Score {
+    let g = rectilinear(1, count, 0, 0);
+    let rising = rising();
+    let entries = part(&rising, 0, count);
+    taken(s, g, entries, entries, name)
+}
+
+// Refusals 5 and 6, on two axes of four entries.
+pub fn rectilinear_refused_order(
+    s: Score,
+    entries: [f64; 8],
+    number: u64,
+    axis: u64,
+    name: &[u8],
+) -> Score {
+    let zeros = zeros();
+    refused(
+        s,
+        rectilinear(2, 4, 4, 0),
+        &entries,
+        part(&zeros, 0, 16),
+        number,
+        axis,
+        name,
+    )
+}

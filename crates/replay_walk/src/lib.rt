@@ -1,0 +1,238 @@
+// Walks the corpus: each group, each of its queries, then its batches.
+ghost use Prim.Native.Nat.{_≤_};
+use replay_batches::Walk;
+use replay_batches::marked_words;
+use replay_batches::put;
+use replay_batches::put_gradient;
+use replay_batches::run_interp;
+use replay_batches::run_interp_grad;
+use replay_calls::NEW;
+use replay_calls::call_new;
+use replay_calls::same_outcome;
+use replay_calls::same_single;
+use replay_corpus::CUT_SHORT;
+use replay_corpus::Expected;
+use replay_corpus::Group;
+use replay_corpus::TRAILING;
+use replay_corpus::expected_at;
+use replay_corpus::group_at;
+use replay_corpus::part;
+use replay_corpus::query;
+use replay_words::Tally;
+use replay_words::word;
+
+// What the batches give, once query i is known.
+fn stop_at(w: Walk, i: u64, e: Expected) -> Walk {
+    let mut r = w;
+    if w.number == 0 {
+        if e.number != 0 {
+            r.number = e.number;
+            r.query = i;
+            r.axis = e.axis;
+        }
+    }
+    r
+}
+
+fn fault(w: Walk, state: u64) -> Walk {
+    let mut t = w.tally;
+    t.state = state;
+    with_tally(w, t)
+}
+
+// One query: compares the single calls, and puts what the batches are to hold into both buffers.
+fn run_query(
+    words: &[u64],
+    g: Group,
+    axes: &[f64],
+    vals: &[f64],
+    queries: &[f64],
+    i: usize,
+    w: Walk,
+    values: &mut [u64; 256],
+    gradients: &mut [u64; 256],
+) -> Walk {
+    let n = g.n;
+    let count = g.count;
+    let e = expected_at(words, w.at, n);
+    if e.state != 0 {
+        return fault(w, e.state);
+    }
+    let x = query(queries, count, i, n);
+    let mut t = w.tally;
+    t.query = i as u64;
+    t.queries = std::num::wrapping_add_u64(t.queries, 1);
+    let t = same_single(t, g, axes, vals, x, e);
+    let mut r = stop_at(w, i as u64, e);
+    r.tally = t;
+    r.at = e.next;
+    if r.number == 0 {
+        let gradient = e.gradient;
+        put(values, 1, count, 0, i, e.value);
+        put_gradient(gradients, n, count, i, gradient);
+    }
+    r
+}
+
+fn at_most_64(x: usize) -> usize
+    ensures { λ r. ⌜ r ≤ 64 ⌝ }
+{
+    if x < 64 { x } else { 64 }
+}
+
+fn run_queries(
+    words: &[u64],
+    g: Group,
+    axes: &[f64],
+    vals: &[f64],
+    queries: &[f64],
+    w: Walk,
+    values: &mut [u64; 256],
+    gradients: &mut [u64; 256],
+) -> Walk {
+    let count = at_most_64(g.count);
+    let mut r = w;
+    let mut i: usize = 0;
+    while i < count {
+        let t = r.tally;
+        if t.state != 0 {
+            return r;
+        }
+        r = run_query(words, g, axes, vals, queries, i, r, values, gradients);
+        i += 1;
+    }
+    r
+}
+
+// A grid that `new` refuses: every single call gives the same refusal.
+fn run_refused(g: Group, axes: &[f64], vals: &[f64], tally: Tally) -> Tally {
+    let e = Expected {
+        state: 0,
+        number: g.number,
+        axis: g.axis,
+        places: [0; 4],
+        value: 0,
+        gradient: [0; 4],
+        next: 0,
+    };
+    same_single(tally, g, axes, vals, [0.0; 4], e)
+}
+
+fn run_new(g: Group, axes: &[f64], vals: &[f64], tally: Tally) -> Tally {
+    let t = same_outcome(tally, NEW, g.number, 0, g.axis, call_new(g, axes, vals));
+    if g.number == 0 {
+        return t;
+    }
+    run_refused(g, axes, vals, t)
+}
+
+fn with_tally(w: Walk, tally: Tally) -> Walk {
+    let mut r = w;
+    r.tally = tally;
+    r
+}
+
+// A group that was read. A refused one has no queries.
+fn run_grid(
+    words: &[u64],
+    g: Group,
+    axes: &[f64],
+    vals: &[f64],
+    queries: &[f64],
+    tally: Tally,
+) -> Walk {
+    let mut values = marked_words();
+    let mut gradients = marked_words();
+    let t = run_new(g, axes, vals, tally);
+    let w = Walk {
+        tally: t,
+        at: g.answers_at,
+        number: g.number,
+        query: 0,
+        axis: g.axis,
+    };
+    let w = run_queries(
+        words,
+        g,
+        axes,
+        vals,
+        queries,
+        w,
+        &mut values,
+        &mut gradients,
+    );
+    let w = with_tally(w, run_interp(g, axes, vals, queries, w, &values));
+    with_tally(w, run_interp_grad(g, axes, vals, queries, w, &gradients))
+}
+
+// The group at w's next word.
+fn run_group(words: &[u64], floats: &[f64], w: Walk) -> Walk {
+    let g = group_at(words, floats, w.at);
+    if g.state != 0 {
+        return fault(w, g.state);
+    }
+    let mut t = w.tally;
+    t.query = 0;
+    let axes = part(floats, g.joined_at, g.joined);
+    let vals = part(floats, g.vals_at, g.vals);
+    let queries = part(floats, g.queries_at, g.entries);
+    run_grid(words, g, axes, vals, queries, t)
+}
+
+fn next_group(w: Walk) -> Walk {
+    let mut t = w.tally;
+    if t.state == 0 {
+        t.groups = std::num::wrapping_add_u64(t.groups, 1);
+    }
+    with_tally(w, t)
+}
+
+// All groups. What is left over is a fault.
+pub fn run(words: &[u64], floats: &[f64]) -> Tally {
+    let groups = word(words, 0);
+    let mut w = start();
+    let mut i: u64 = 0;
+    while i < groups {
+        let t = w.tally;
+        if t.state != 0 {
+            return t;
+        }
+        w = next_group(run_group(words, floats, w));
+        i += 1;
+    }
+    finish(words.len(), w)
+}
+
+fn start() -> Walk {
+    Walk {
+        tally: Tally {
+            state: 0,
+            groups: 0,
+            queries: 0,
+            comparisons: 0,
+            query: 0,
+            call: 0,
+            item: 0,
+            place: 0,
+            expected: 0,
+            found: 0,
+        },
+        at: 1,
+        number: 0,
+        query: 0,
+        axis: 0,
+    }
+}
+
+fn finish(end: usize, w: Walk) -> Tally {
+    let mut t = w.tally;
+    if t.state == 0 {
+        if end < w.at {
+            t.state = CUT_SHORT;
+        }
+        if w.at < end {
+            t.state = TRAILING;
+        }
+    }
+    t
+}

@@ -1,0 +1,2 @@
+-- Laws of the slices that are lent.
+pub mod Laws

@@ -1,0 +1,2 @@
+-- What slices of any length add to the calls.
+pub mod Slices

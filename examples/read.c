@@ -1,0 +1,52 @@
+/* Reads a small regular table from C: values, a slope, a batch that is refused in the middle, and a grid that is turned away.
+ * Prints what it finds, and exits with 1 where that is not what the scope paper says. */
+#include <math.h>
+#include <stdio.h>
+
+#include "../include/veltzuma.h"
+
+static int wrong = 0;
+
+static void expect(const char *what, double found, double expected) {
+    printf("%-36s %g\n", what, found);
+    if (found != expected) {
+        printf("  expected %g\n", expected);
+        wrong = 1;
+    }
+}
+
+int main(void) {
+    const size_t counts[1] = {4};
+    const double starts[1] = {0.0}, steps[1] = {1.0}, vals[4] = {0.0, 1.0, 8.0, 27.0};
+    const double inside[1] = {1.5}, outside[1] = {4.0};
+    size_t refusal[2] = {9, 9}, origins[1];
+    uint8_t classes[1];
+    double value[1] = {0.0}, slope[1] = {0.0};
+#define GRID 1, counts, 1, starts, 1, steps, 1, vals, 4
+
+    expect("number at 1.5", veltzuma_regular_interp_one(GRID, false, inside, 1, refusal, 2, value, 1), 0);
+    expect("value at 1.5", value[0], 3.375);
+    expect("number of the slope", veltzuma_regular_interp_one_grad(GRID, false, inside, 1, refusal, 2, slope, 1), 0);
+    expect("slope at 1.5", slope[0], 6.25);
+    veltzuma_regular_interp_one(GRID, true, outside, 1, refusal, 2, value, 1);
+    expect("value at 4, straight", value[0], 52.0);
+    veltzuma_regular_interp_one(GRID, false, outside, 1, refusal, 2, value, 1);
+    expect("value at 4, cubic", value[0], 58.0);
+    expect("number of the place", veltzuma_regular_get_loc(GRID, outside, 1, refusal, 2, origins, 1, classes, 1), 0);
+    expect("origin at 4", (double)origins[0], 0);
+    expect("class at 4", classes[0], 4);
+
+    const double queries[3] = {1.5, INFINITY, 1.5};
+    double out[3] = {-1.0, -2.0, -3.0};
+    expect("number of a batch", veltzuma_regular_interp(GRID, false, queries, 3, refusal, 2, out, 3), 8);
+    expect("its query", (double)refusal[0], 1);
+    expect("its axis", (double)refusal[1], 0);
+    expect("entry before it", out[0], 3.375);
+    expect("entry of the query", out[1], -2.0);
+    expect("entry after it", out[2], -3.0);
+
+    expect("number with a value missing", veltzuma_regular_new(1, counts, 1, starts, 1, steps, 1, vals, 3, refusal, 2), 3);
+    expect("number with no counts", veltzuma_regular_new(1, NULL, 0, starts, 1, steps, 1, vals, 4, refusal, 2), 3);
+    expect("number with no room for a value", veltzuma_regular_interp_one(GRID, false, inside, 1, refusal, 2, NULL, 0), 7);
+    return wrong;
+}

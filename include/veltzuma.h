@@ -1,0 +1,94 @@
+/* Veltzuma: value, gradient and place of a query on a cubic surface over a measured grid, for C.
+ *
+ * The archive is libcapi.a (`rt staticlib capi`), for x86-64. Link it as it is; it needs no other library.
+ *
+ * Every call takes any input. A slice is a pointer and a length in entries, and may have any length; a null pointer with length 0
+ * is an empty slice, a null pointer with another length is not allowed. The slices of one call must not overlap. Nothing is kept
+ * after a call returns, nothing is allocated, and calls may run at the same time on several threads.
+ *
+ * A call returns one of these numbers:
+ *
+ *   0  done
+ *   1  axis count not 1 to 4
+ *   2  an axis over 4,096 entries, or a product of the counts over 1,048,576
+ *   3  a length does not match: vals is not the product of the counts, axes is not their sum, or counts, starts, steps or x is
+ *      shorter than the axis count (1 and 2 look only at the counts that are there)
+ *   4  an axis under 4 entries                                                     axis: the lowest such
+ *   5  regular: a step is not above 0; rectilinear: entry 1 is not above entry 0   axis: the lowest such
+ *   6  rectilinear: an entry is NaN or below the one before it                     axis: the lowest such
+ *   7  more than 1,048,576 queries; queries or out of a wrong length; or refusal, origins, classes, value or gradient too short
+ *   8  regular: a query has no place, since (query - start) / step is NaN, infinite, at least 2^63 or below -2^63
+ *                                                                                  query: the lowest such; axis: its lowest
+ *
+ * The checks run in this order, each over all axes before the next. refusal[0] receives the query and refusal[1] the axis; both
+ * are 0 where the table names none. On 7 nothing at all is written. value, gradient, origins and classes are written on 0 alone:
+ * the first entry of value, the first axis_count entries of the others. On 8 a batch holds the answers of the queries before the
+ * refused one; every other entry is as it was.
+ *
+ * A grid. axis_count is 1 to 4. counts holds the number of entries of each axis.
+ *   regular      axis i has the entries starts[i] + steps[i] * k for k from 0 to counts[i] - 1
+ *   rectilinear  axes holds all entries of axis 0, then of axis 1, and so on
+ *   vals         one number for each point, the last axis fastest
+ *
+ * straight is the original's linearize_extrapolation: outside the grid the surface follows a straight line instead of the cubic.
+ * A class is 0 None, 1 InsideLow, 2 OutsideLow, 3 InsideHigh, 4 OutsideHigh.
+ * The queries of a batch are joined columns: the coordinates of all queries on axis 0, then on axis 1. */
+#ifndef VELTZUMA_H
+#define VELTZUMA_H
+
+#include <stdbool.h>
+#include <stddef.h>
+#include <stdint.h>
+
+#ifdef __cplusplus
+extern "C" {
+#endif
+
+#define VELTZUMA_REGULAR                                                                                                       \
+    size_t axis_count, const size_t *counts, size_t counts_len, const double *starts, size_t starts_len, const double *steps,   \
+        size_t steps_len, const double *vals, size_t vals_len
+
+#define VELTZUMA_RECTILINEAR                                                                                                   \
+    size_t axis_count, const size_t *counts, size_t counts_len, const double *axes, size_t axes_len, const double *vals,        \
+        size_t vals_len
+
+/* Whether the grid is taken. refusal: 2 entries. */
+uint8_t veltzuma_regular_new(VELTZUMA_REGULAR, size_t *refusal, size_t refusal_len);
+uint8_t veltzuma_rectilinear_new(VELTZUMA_RECTILINEAR, size_t *refusal, size_t refusal_len);
+
+/* The place of a query: the first index of its block of four, and its class, on each axis. x: axis_count coordinates. */
+uint8_t veltzuma_regular_get_loc(VELTZUMA_REGULAR, const double *x, size_t x_len, size_t *refusal, size_t refusal_len,
+                                 size_t *origins, size_t origins_len, uint8_t *classes, size_t classes_len);
+uint8_t veltzuma_rectilinear_get_loc(VELTZUMA_RECTILINEAR, const double *x, size_t x_len, size_t *refusal, size_t refusal_len,
+                                     size_t *origins, size_t origins_len, uint8_t *classes, size_t classes_len);
+
+/* The value at a query. value: 1 entry. */
+uint8_t veltzuma_regular_interp_one(VELTZUMA_REGULAR, bool straight, const double *x, size_t x_len, size_t *refusal,
+                                    size_t refusal_len, double *value, size_t value_len);
+uint8_t veltzuma_rectilinear_interp_one(VELTZUMA_RECTILINEAR, bool straight, const double *x, size_t x_len, size_t *refusal,
+                                        size_t refusal_len, double *value, size_t value_len);
+
+/* The gradient at a query. gradient: axis_count entries. */
+uint8_t veltzuma_regular_interp_one_grad(VELTZUMA_REGULAR, bool straight, const double *x, size_t x_len, size_t *refusal,
+                                         size_t refusal_len, double *gradient, size_t gradient_len);
+uint8_t veltzuma_rectilinear_interp_one_grad(VELTZUMA_RECTILINEAR, bool straight, const double *x, size_t x_len,
+                                             size_t *refusal, size_t refusal_len, double *gradient, size_t gradient_len);
+
+/* The values of a batch of out_len queries. queries: axis_count * out_len coordinates. */
+uint8_t veltzuma_regular_interp(VELTZUMA_REGULAR, bool straight, const double *queries, size_t queries_len, size_t *refusal,
+                                size_t refusal_len, double *out, size_t out_len);
+uint8_t veltzuma_rectilinear_interp(VELTZUMA_RECTILINEAR, bool straight, const double *queries, size_t queries_len,
+                                    size_t *refusal, size_t refusal_len, double *out, size_t out_len);
+
+/* The gradients of a batch of out_len / axis_count queries, which axis_count must divide: component d of query i is at
+ * d * (out_len / axis_count) + i. */
+uint8_t veltzuma_regular_interp_grad(VELTZUMA_REGULAR, bool straight, const double *queries, size_t queries_len,
+                                     size_t *refusal, size_t refusal_len, double *out, size_t out_len);
+uint8_t veltzuma_rectilinear_interp_grad(VELTZUMA_RECTILINEAR, bool straight, const double *queries, size_t queries_len,
+                                         size_t *refusal, size_t refusal_len, double *out, size_t out_len);
+
+#ifdef __cplusplus
+}
+#endif
+
+#endif

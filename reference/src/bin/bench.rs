@@ -1,0 +1,224 @@
+//! Times libcapi.a against the original Rust on one core.
+//!   bench [REPEATS [QUERIES [OUTSIDE]]]     all cases: 21 repeats, 100,000 queries, 0 percent outside the table
+//!   bench list                              the names of the cases
+//!   bench once SIDE CASE [TIMES [QUERIES]]  one side (rust or ours) of one case, 10 times 10,000 queries, for callgrind
+//! Both sides run in one process, by turns, over the same queries. Each answer is compared before anything is timed.
+#[allow(dead_code)]
+#[path = "../cases.rs"]
+mod cases;
+#[allow(dead_code)]
+#[path = "../original.rs"]
+mod original;
+#[allow(dead_code)]
+#[path = "../ours.rs"]
+mod ours;
+use cases::{Axis, Grid, Rng, product};
+use interpn::multicubic::{MulticubicRectilinear, MulticubicRegular};
+use original::{read, same};
+use std::hint::black_box;
+use std::time::Instant;
+
+#[derive(Clone, Copy, PartialEq)]
+enum Call {
+    Values,
+    Gradients,
+    /// Query by query with interp_one. The Rust keeps its grid; ours checks it again at each call.
+    One,
+    /// The same, with the Rust making its grid by `new` each time.
+    NewAndOne,
+}
+
+struct Case {
+    name: String,
+    grid: Grid,
+    call: Call,
+    columns: Vec<Vec<f64>>,
+    joined: Vec<f64>,
+}
+
+fn cases(queries: usize, outside: usize) -> Vec<Case> {
+    let shapes: [(&[usize], &[Call]); 5] = [
+        (&[20, 20, 20], &[Call::Values, Call::Gradients]),
+        (&[7, 9, 12], &[Call::Values, Call::Gradients, Call::One, Call::NewAndOne]),
+        (&[20], &[Call::Values, Call::Gradients]),
+        (&[20, 20], &[Call::Values, Call::Gradients]),
+        (&[8, 8, 8, 8], &[Call::Values, Call::Gradients]),
+    ];
+    let starts = [-1.0, 0.25, 10.0, 3.0];
+    let steps = [0.125, 0.3, 2.0, 0.7];
+    let mut list = vec![];
+    for (counts, calls) in shapes {
+        for rectilinear in [false, true] {
+            let mut r = Rng(1);
+            let axes: Vec<Axis> = (0..counts.len())
+                .map(|d| {
+                    let (start, step, n) = (starts[d], steps[d], counts[d]);
+                    if !rectilinear {
+                        return Axis::Regular { start, step, n };
+                    }
+                    // Uneven gaps over about the same span.
+                    Axis::Rectilinear((0..n).map(|i| start + step * (i as f64 + 0.6 * (r.unit() - 0.5))).collect())
+                })
+                .collect();
+            let values: Vec<f64> = (0..product(&axes)).map(|_| r.unit() * 200.0 - 100.0).collect();
+            let columns: Vec<Vec<f64>> = axes
+                .iter()
+                .map(|a| {
+                    let (low, high) = (a.node(0), a.node(a.n() - 1));
+                    (0..queries)
+                        .map(|_| {
+                            let u = r.unit();
+                            if r.below(100) >= outside {
+                                low + (high - low) * u
+                            } else if u < 0.5 {
+                                low - (high - low) * 0.2 * u
+                            } else {
+                                high + (high - low) * 0.2 * (u - 0.5)
+                            }
+                        })
+                        .collect()
+                })
+                .collect();
+            for &call in calls {
+                let kind = if rectilinear { "rectilinear" } else { "regular" };
+                let shape = counts.iter().map(|n| n.to_string()).collect::<Vec<_>>().join("x");
+                let what = match call {
+                    Call::Values => "values",
+                    Call::Gradients => "gradients",
+                    Call::One => "one",
+                    Call::NewAndOne => "new-and-one",
+                };
+                list.push(Case {
+                    name: format!("{kind}-{shape}-{what}"),
+                    grid: Grid::new(&axes, values.clone(), false),
+                    call,
+                    joined: columns.concat(),
+                    columns: columns.clone(),
+                });
+            }
+        }
+    }
+    list
+}
+
+impl Case {
+    fn queries(&self) -> usize {
+        self.columns[0].len()
+    }
+    fn buffer(&self) -> Vec<f64> {
+        let wide = if self.call == Call::Gradients { self.columns.len() } else { 1 };
+        vec![0.0; wide * self.queries()]
+    }
+
+    fn rust(&self, out: &mut [f64]) {
+        let g = black_box(&self.grid);
+        let columns: Vec<&[f64]> = self.columns.iter().map(|x| &x[..]).collect();
+        match self.call {
+            Call::Values => read(g, |reader| reader.unwrap().batch(black_box(&columns), out).unwrap()),
+            Call::Gradients => {
+                let mut parts: Vec<&mut [f64]> = out.chunks_mut(self.queries()).collect();
+                read(g, |reader| reader.unwrap().batch_grad(black_box(&columns), &mut parts).unwrap())
+            }
+            // Three axes, called directly: here a call through a table would show.
+            Call::One | Call::NewAndOne => {
+                let again = self.call == Call::NewAndOne;
+                let query = |i: usize| [columns[0][i], columns[1][i], columns[2][i]];
+                if g.rectilinear {
+                    let parts = g.cut();
+                    let grids: &[&[f64]; 3] = parts[..].try_into().unwrap();
+                    let new = || MulticubicRectilinear::<f64, 3>::new(black_box(grids), &g.values, g.straight).unwrap();
+                    let kept = new();
+                    for (i, y) in out.iter_mut().enumerate() {
+                        let x = black_box(query(i));
+                        *y = if again { new().interp_one(x) } else { kept.interp_one(x) }.unwrap();
+                    }
+                } else {
+                    let dims: [usize; 3] = g.counts[..].try_into().unwrap();
+                    let starts: [f64; 3] = g.starts[..].try_into().unwrap();
+                    let steps: [f64; 3] = g.steps[..].try_into().unwrap();
+                    let new = || MulticubicRegular::<f64, 3>::new(black_box(dims), starts, steps, &g.values, g.straight).unwrap();
+                    let kept = new();
+                    for (i, y) in out.iter_mut().enumerate() {
+                        let x = black_box(query(i));
+                        *y = if again { new().interp_one(x) } else { kept.interp_one(x) }.unwrap();
+                    }
+                }
+            }
+        }
+    }
+
+    fn ours(&self, out: &mut [f64]) {
+        let g = black_box(&self.grid);
+        let mut refusal = [0; 2];
+        match self.call {
+            Call::Values => assert_eq!(ours::interp(g, &self.joined, &mut refusal, out), 0),
+            Call::Gradients => assert_eq!(ours::interp_grad(g, &self.joined, &mut refusal, out), 0),
+            Call::One | Call::NewAndOne => {
+                for (i, y) in out.iter_mut().enumerate() {
+                    let x = black_box([self.columns[0][i], self.columns[1][i], self.columns[2][i]]);
+                    assert_eq!(ours::interp_one(g, &x, &mut refusal, std::slice::from_mut(y)), 0);
+                }
+            }
+        }
+    }
+}
+
+fn once(args: &[String]) {
+    let number = |i: usize, default: usize| args.get(i).map_or(default, |a| a.parse().expect("a whole number"));
+    let (times, queries) = (number(2, 10), number(3, 10_000));
+    let list = cases(queries, 0);
+    let case = list.iter().find(|c| args.get(1) == Some(&c.name)).expect("a case of `bench list`");
+    let mut out = case.buffer();
+    for _ in 0..times {
+        match args[0].as_str() {
+            "rust" => case.rust(black_box(&mut out)),
+            "ours" => case.ours(black_box(&mut out)),
+            _ => panic!("the side is rust or ours"),
+        }
+    }
+    println!("sum {:e}", out.iter().sum::<f64>());
+}
+
+fn all(args: &[String]) {
+    let number = |i: usize, default: usize| args.get(i).map_or(default, |a| a.parse().expect("a whole number"));
+    let (repeats, queries, outside) = (number(0, 21), number(1, 100_000), number(2, 0));
+    println!("{repeats} repeats, {queries} queries, {outside} percent of the coordinates outside; ns per query");
+    println!("{:37} {:>9} {:>9} {:>9} {:>9} {:>8} {:>8}", "", "Rust", "", "ours", "", "ours/Rust", "");
+    println!("{:37} {:>9} {:>9} {:>9} {:>9} {:>8} {:>8}", "case", "median", "least", "median", "least", "median", "least");
+    for case in cases(queries, outside) {
+        let (mut a, mut b) = (case.buffer(), case.buffer());
+        case.rust(&mut a);
+        case.ours(&mut b);
+        if let Some(i) = (0..a.len()).find(|&i| !same(a[i], b[i])) {
+            println!("{}: entry {i} differs: ours {:e}, the Rust {:e}", case.name, b[i], a[i]);
+            std::process::exit(1);
+        }
+        let mut times = [vec![], vec![]];
+        for i in 0..repeats {
+            for turn in 0..2 {
+                // Who begins changes from repeat to repeat.
+                let side = (i + turn) % 2;
+                let start = Instant::now();
+                if side == 0 { case.rust(black_box(&mut a)) } else { case.ours(black_box(&mut b)) }
+                times[side].push(start.elapsed().as_nanos() as f64 / queries as f64);
+            }
+        }
+        let [rust, ours] = times.map(|mut t| {
+            t.sort_by(f64::total_cmp);
+            (t[t.len() / 2], t[0])
+        });
+        println!(
+            "{:37} {:9.2} {:9.2} {:9.2} {:9.2} {:8.3} {:8.3}",
+            case.name, rust.0, rust.1, ours.0, ours.1, ours.0 / rust.0, ours.1 / rust.1
+        );
+    }
+}
+
+fn main() {
+    let args: Vec<String> = std::env::args().skip(1).collect();
+    match args.first().map(|a| a.as_str()) {
+        Some("list") => cases(1, 0).iter().for_each(|c| println!("{}", c.name)),
+        Some("once") => once(&args[1..]),
+        _ => all(&args),
+    }
+}

@@ -1,0 +1,520 @@
+//! Makes the corpus: grids and queries, with what the original Rust answers. The same bytes for the same seed.
+//!   corpus SEED FILE        (from target/checked)
+//! The file is a sequence of 64-bit little-endian words. Word 0: the number of groups. Then each group:
+//!   kind       0 regular, 1 rectilinear
+//!   mode       0 cubic, 1 straight (linearize_extrapolation)
+//!   n          axis count
+//!   counts     4 words, 0 past n
+//!   regular: starts, 4 words, and steps, 4 words (bits, 0 past n); rectilinear: J, then J words, the joined axes (bits)
+//!   V, then V words, the values (bits)
+//!   number, axis   what `new` gives: 0 0, or 3, 4, 5 with the lowest such axis (0 for 3); then Q is 0
+//!   Q          number of queries
+//!   queries    n * Q words, joined columns (bits)
+//!   answers    for each query: 1, then n words origin * 8 + class, the value, n words the gradient (bits, any NaN as
+//!              7ff8000000000000); or, where it cannot be placed, 0 and the lowest axis on which get_loc refuses
+#[path = "../cases.rs"]
+mod cases;
+#[path = "../original.rs"]
+mod original;
+use cases::*;
+use original::*;
+use std::collections::BTreeMap;
+use std::panic::catch_unwind;
+
+const MOST_WORDS: usize = 131_072;
+const CLASSES: [&str; 5] = ["None", "InsideLow", "OutsideLow", "InsideHigh", "OutsideHigh"];
+const KINDS: [&str; 2] = ["regular", "rectilinear"];
+const MODES: [&str; 2] = ["cubic", "straight"];
+
+fn bits(x: f64) -> u64 {
+    if x.is_nan() { 0x7ff8_0000_0000_0000 } else { x.to_bits() }
+}
+
+struct Corpus {
+    words: Vec<u64>,
+    groups: usize,
+    queries: usize,
+    left_out: usize,
+    tally: BTreeMap<String, usize>,
+    /// By kind, mode, axis count, axis and class.
+    classes: BTreeMap<(usize, usize, usize, usize, usize), usize>,
+}
+
+impl Corpus {
+    fn count(&mut self, what: String) {
+        *self.tally.entry(what).or_default() += 1;
+    }
+
+    fn head(&mut self, topic: &str, g: &Grid) {
+        let n = g.counts.len();
+        assert!((1..=4).contains(&n) && g.values.len() <= 4096 && g.joined.len() <= 4096);
+        self.groups += 1;
+        self.count(format!("groups, {}, axis count {n}", KINDS[g.rectilinear as usize]));
+        self.count(format!("groups, {}", MODES[g.straight as usize]));
+        self.count(format!("topic {topic}: groups"));
+        let four = |xs: &[u64]| (0..4).map(|i| xs.get(i).copied().unwrap_or(0)).collect::<Vec<u64>>();
+        let raw = |xs: &[f64]| xs.iter().map(|x| x.to_bits()).collect::<Vec<u64>>();
+        self.words.extend([g.rectilinear as u64, g.straight as u64, n as u64]);
+        self.words.extend(four(&g.counts.iter().map(|&n| n as u64).collect::<Vec<u64>>()));
+        if g.rectilinear {
+            self.words.push(g.joined.len() as u64);
+            self.words.extend(raw(&g.joined));
+        } else {
+            self.words.extend(four(&raw(&g.starts)));
+            self.words.extend(four(&raw(&g.steps)));
+        }
+        self.words.push(g.values.len() as u64);
+        self.words.extend(raw(&g.values));
+    }
+
+    /// A grid that `new` takes, and queries to it.
+    fn group(&mut self, topic: &str, axes: &[Axis], straight: bool, values: Vec<f64>, mut queries: Vec<Vec<f64>>) {
+        let before = queries.len();
+        queries.retain(|x| !axes.iter().zip(x).any(|(a, &x)| a.apart(x)));
+        self.left_out += before - queries.len();
+        let g = Grid::new(axes, values, straight);
+        let n = axes.len();
+        let c = queries.len();
+        assert!(c <= 64);
+        self.head(topic, &g);
+        self.words.extend([0, 0, c as u64]);
+        let columns: Vec<Vec<f64>> = (0..n).map(|d| queries.iter().map(|x| x[d]).collect()).collect();
+        for column in &columns {
+            self.words.extend(column.iter().map(|x| x.to_bits()));
+        }
+        read(&g, |reader| {
+            let reader = reader.expect("a group's grid is taken");
+            let mut answers: Vec<Option<(f64, Vec<f64>)>> = vec![];
+            for x in &queries {
+                answers.push(self.answer(topic, &g, axes, reader, x));
+            }
+            // The batch follows from the single answers: the entries before the first unplaceable query hold them,
+            // the others keep what they held.
+            let first = answers.iter().position(|a| a.is_none());
+            let expected = |result: Result<(), Message>| match result {
+                Ok(()) => assert_eq!(first, None),
+                Err(message) => assert!(first.is_some() && message == UNPLACEABLE),
+            };
+            let columns: Vec<&[f64]> = columns.iter().map(|x| &x[..]).collect();
+            let mut out: Vec<f64> = (0..c).map(untouched).collect();
+            expected(reader.batch(&columns, &mut out));
+            let mut grad: Vec<Vec<f64>> = (0..n).map(|d| (0..c).map(|i| untouched(d * c + i)).collect()).collect();
+            expected(reader.batch_grad(&columns, &mut grad.iter_mut().map(|x| &mut x[..]).collect::<Vec<_>>()));
+            for i in 0..c {
+                if i < first.unwrap_or(c) {
+                    let (value, gradient) = answers[i].as_ref().unwrap();
+                    assert!(same(out[i], *value) && out[i].to_bits() != untouched(i).to_bits());
+                    for d in 0..n {
+                        assert!(same(grad[d][i], gradient[d]) && grad[d][i].to_bits() != untouched(d * c + i).to_bits());
+                    }
+                } else {
+                    assert_eq!(out[i].to_bits(), untouched(i).to_bits());
+                    for d in 0..n {
+                        assert_eq!(grad[d][i].to_bits(), untouched(d * c + i).to_bits());
+                    }
+                }
+            }
+            if let Some(k) = first {
+                if k > 0 && answers[k..].iter().any(|a| a.is_some()) {
+                    self.count("groups with an unplaceable query in the middle".into());
+                }
+            }
+        });
+    }
+
+    /// One query's answer, written down and counted.
+    fn answer(&mut self, topic: &str, g: &Grid, axes: &[Axis], reader: &dyn Reader, x: &[f64]) -> Option<(f64, Vec<f64>)> {
+        let n = x.len();
+        let kind = KINDS[g.rectilinear as usize];
+        self.queries += 1;
+        self.count(format!("queries, {kind}, axis count {n}"));
+        self.count(format!("topic {topic}: queries"));
+        for (what, is) in [
+            ("a NaN", (|x| x.is_nan()) as fn(&f64) -> bool),
+            ("an infinity", |x| x.is_infinite()),
+            ("a subnormal number", |x| x.is_subnormal()),
+            ("-0", |x| x.to_bits() == 1 << 63),
+        ] {
+            if x.iter().any(is) {
+                self.count(format!("queries with {what}, {kind}"));
+            }
+        }
+        if axes.iter().zip(x).all(|(a, &x)| (0..a.n()).any(|i| a.node(i) == x)) {
+            self.count(format!("queries at a node, {kind}"));
+        }
+        for (a, &x) in axes.iter().zip(x) {
+            if let Axis::Regular { start, step, .. } = a {
+                let q = ((x - *start) / *step).abs();
+                for e in [53, 63] {
+                    if q >= pow2(e).next_down() && q <= pow2(e).next_up() {
+                        self.count(format!("coordinates with a quotient at or beside 2^{e} or -2^{e}"));
+                    }
+                }
+            }
+        }
+        let places: Vec<Option<(usize, u8)>> = (0..n).map(|d| reader.place(x[d], d)).collect();
+        let value = reader.one(x);
+        let mut gradient = vec![0.0; n];
+        let taken = reader.one_grad(x, &mut gradient);
+        if let Some(axis) = places.iter().position(|p| p.is_none()) {
+            assert!(value == Err(UNPLACEABLE) && taken == Err(UNPLACEABLE));
+            self.count(format!("queries unplaceable, {kind}, axis count {n}"));
+            self.count(format!("unplaceable on axis {axis} first"));
+            self.words.extend([0, axis as u64]);
+            return None;
+        }
+        let value = value.unwrap();
+        taken.unwrap();
+        self.words.push(1);
+        for (d, p) in places.iter().enumerate() {
+            let (origin, class) = p.unwrap();
+            *self.classes.entry((g.rectilinear as usize, g.straight as usize, n, d, class as usize)).or_default() += 1;
+            self.words.push(origin as u64 * 8 + class as u64);
+        }
+        self.words.push(bits(value));
+        self.words.extend(gradient.iter().map(|&x| bits(x)));
+        if value.is_nan() {
+            self.count(format!("answers with a NaN value, {kind}"));
+        }
+        // Where NaN values stand, against the query's block.
+        let mut nans = [false; 2];
+        for (i, v) in g.values.iter().enumerate() {
+            if v.is_nan() {
+                let mut rest = i;
+                let mut inside = true;
+                for d in (0..n).rev() {
+                    let (origin, _) = places[d].unwrap();
+                    inside &= (origin..origin + 4).contains(&(rest % g.counts[d]));
+                    rest /= g.counts[d];
+                }
+                nans[inside as usize] = true;
+            }
+        }
+        if nans[1] {
+            self.count("queries with a NaN value inside the block".into());
+            assert!(value.is_nan());
+        } else if nans[0] {
+            self.count("queries with NaN values outside the block only".into());
+        }
+        Some((value, gradient))
+    }
+
+    /// A grid that `new` refuses.
+    fn refused(&mut self, g: &Grid) -> bool {
+        let Some(message) = read(g, |reader| reader.err()) else { return false };
+        let (number, axis) = refusal(g, message);
+        self.head("refused", g);
+        self.count(format!("refusals, number {number}"));
+        self.words.extend([number as u64, axis as u64, 0]);
+        true
+    }
+}
+
+/// Small counts: the words go to queries rather than to tables.
+fn count(r: &mut Rng, many: usize) -> usize {
+    match many {
+        1 => r.pick(&[4, 4, 5, 5, 6, 7]),
+        2 => r.pick(&[4, 4, 4, 5, 5, 6, 7]),
+        3 => r.pick(&[4, 4, 4, 4, 5]),
+        _ => 4,
+    }
+}
+
+fn grid(r: &mut Rng, rectilinear: bool, flavours: &[&str], many: usize) -> Vec<Axis> {
+    let longer = if many == 4 && r.coin() { r.below(4) } else { 9 };
+    (0..many)
+        .map(|d| {
+            let n = if d == longer { 5 } else { count(r, many) };
+            let flavour = r.pick(flavours);
+            axis(r, rectilinear, flavour, n)
+        })
+        .collect()
+}
+
+fn how_many_axes(r: &mut Rng) -> usize {
+    r.pick(&[1, 1, 1, 1, 1, 1, 1, 2, 2, 2, 2, 2, 2, 3, 3, 3, 3, 4, 4])
+}
+
+fn make(r: &mut Rng, o: &mut Corpus) {
+    // The marked cases of the scope paper, and the cubes 0, 1, 8, 27.
+    let five = [Axis::Regular { start: 0.0, step: 1.0, n: 5 }];
+    let uneven = [Axis::Rectilinear(vec![0.0, 1.0, 2.0, 4.0, 7.0])];
+    let cubes = [Axis::Regular { start: 0.0, step: 1.0, n: 4 }];
+    let single = |xs: &[f64]| xs.iter().map(|&x| vec![x]).collect::<Vec<_>>();
+    for straight in [false, true] {
+        let v = values(r, "whole", 5);
+        o.group("marked", &five, straight, v, single(&[-0.5, 0.0, 1.0, 2.5, 3.0, 4.0, pow2(63)]));
+        let v = values(r, "whole", 5);
+        o.group("marked", &uneven, straight, v, single(&[0.0, 1.0, 4.0, 7.0, 8.0]));
+        o.group("marked", &cubes, straight, vec![0.0, 1.0, 8.0, 27.0], single(&[1.5, 4.0, -0.0, -1e-300]));
+        o.group("marked", &cubes, straight, vec![f64::NAN; 4], single(&[1.5, 4.0]));
+        o.group("marked", &uneven, straight, vec![1.0; 5], vec![]);
+        o.group("marked", &five, straight, vec![1.0; 5], vec![]);
+    }
+
+    // Every class on every axis: all combinations on one to three axes, each at random on four.
+    let ordinary = ["whole", "plain", "plain", "exact"];
+    for rectilinear in [false, true] {
+        for straight in [false, true] {
+            for many in 1..=4usize {
+                let mut combos: Vec<usize> = (0..5usize.pow(many as u32)).collect();
+                for i in (1..combos.len()).rev() {
+                    let j = r.below(i + 1);
+                    combos.swap(i, j);
+                }
+                let (parts, size) = [(6, 5), (6, 25), (10, 13), (5, 10)][many - 1];
+                for part in 0..parts {
+                    let axes = grid(r, rectilinear, &ordinary, many);
+                    let v = any_values(r, product(&axes));
+                    let queries = (0..size * if many == 1 { 3 } else { 1 })
+                        .map(|i| {
+                            // Four axes: the first five parts walk through all classes of each axis.
+                            let combo = combos[(part * size + i) % combos.len()];
+                            let class = |d: usize| if many < 4 { combo / 5usize.pow(d as u32) % 5 } else { (combo + i * (d + 1) + part) % 5 };
+                            (0..many).map(|d| of_class(r, &axes[d], class(d))).collect()
+                        })
+                        .collect();
+                    o.group("class", &axes, straight, v, queries);
+                }
+            }
+        }
+    }
+
+    // Nodes and their neighbours among the floats.
+    for i in 0..60 {
+        let many = how_many_axes(r);
+        let axes = grid(r, i % 2 == 1, &["exact", "exact", "whole", "plain", "wild"], many);
+        let v = any_values(r, product(&axes));
+        let queries = (0..10).map(|_| axes.iter().map(|a| near_node(r, a)).collect()).collect();
+        o.group("node", &axes, r.coin(), v, queries);
+    }
+    // Zeros, infinities, NaN, subnormals and extremes as queries.
+    for i in 0..80 {
+        let rectilinear = i % 2 == 1;
+        let many = how_many_axes(r);
+        let flavours: &[&str] = if rectilinear {
+            &["whole", "plain", "extreme", "tiny", "huge", "zeros", "flat"]
+        } else {
+            &["whole", "plain", "whole", "extreme", "tiny", "huge"]
+        };
+        let axes = grid(r, rectilinear, flavours, many);
+        let v = any_values(r, product(&axes));
+        let queries = (0..10)
+            .map(|_| {
+                let odd = r.below(many);
+                (0..many).map(|d| if d == odd || r.one_in(4) { special(r) } else { any_class(r, &axes[d]) }).collect()
+            })
+            .collect();
+        o.group("special", &axes, r.coin(), v, queries);
+    }
+    // Huge, tiny and lost axes.
+    for i in 0..100 {
+        let rectilinear = i % 2 == 1;
+        let many = how_many_axes(r);
+        let flavours: &[&str] = if rectilinear {
+            &["huge", "tiny", "extreme", "wild"]
+        } else {
+            &["huge", "tiny", "extreme", "wild", "huge", "tiny", "wild", "lost"]
+        };
+        let axes = grid(r, rectilinear, flavours, many);
+        let v = any_values(r, product(&axes));
+        let queries = (0..8)
+            .map(|_| axes.iter().map(|a| if r.one_in(3) { near_node(r, a) } else { any_class(r, a) }).collect())
+            .collect();
+        o.group("extreme", &axes, r.coin(), v, queries);
+    }
+    // Quotients at the marks, some of them on one axis among ordinary others.
+    for _ in 0..50 {
+        let many = how_many_axes(r);
+        let axes = grid(r, false, &["quotient"], many);
+        let v = any_values(r, product(&axes));
+        let queries = (0..14)
+            .map(|_| {
+                let odd = r.below(many);
+                (0..many).map(|d| if d == odd || r.one_in(6) { at_mark(r, &axes[d]) } else { any_class(r, &axes[d]) }).collect()
+            })
+            .collect();
+        o.group("quotient", &axes, r.coin(), v, queries);
+    }
+    // Flat gaps.
+    for _ in 0..60 {
+        let many = how_many_axes(r);
+        let axes = grid(r, true, &["flat", "flat", "zeros", "plain"], many);
+        let v = any_values(r, product(&axes));
+        let queries = (0..9)
+            .map(|_| axes.iter().map(|a| if r.coin() { near_node(r, a) } else { any_class(r, a) }).collect())
+            .collect();
+        o.group("flat", &axes, r.coin(), v, queries);
+    }
+    // NaN, infinities and extremes among the values; on axes of five to seven entries some blocks leave them out.
+    for i in 0..80 {
+        let many = r.pick(&[1, 1, 1, 2, 2, 3]);
+        let axes: Vec<Axis> = (0..many)
+            .map(|_| {
+                let n = if many == 3 { 5 } else { r.pick(&[5, 6, 7]) };
+                let flavour = r.pick(&ordinary);
+                axis(r, i % 2 == 1, flavour, n)
+            })
+            .collect();
+        let flavour = r.pick(&["whole", "short", "odd", "big", "small"]);
+        let mut v = values(r, flavour, product(&axes));
+        for _ in 0..r.range(1, 2) {
+            let at = r.pick(&[0, v.len() - 1, r.0 as usize % v.len()]);
+            let payload = f64::from_bits(0x7ff0_0000_0000_0000 | (r.next() >> 12) | 1);
+            v[at] = r.pick(&[f64::NAN, f64::NAN, payload, f64::INFINITY, f64::NEG_INFINITY, f64::MAX]);
+        }
+        let queries = (0..10)
+            .map(|_| axes.iter().map(|a| if r.one_in(3) { near_node(r, a) } else { any_class(r, a) }).collect())
+            .collect();
+        o.group("values", &axes, r.coin(), v, queries);
+    }
+    // Floats by their bits: whatever comes.
+    for i in 0..40 {
+        let many = r.pick(&[1, 1, 1, 2]);
+        let axes = grid(r, i % 2 == 1, &["bits"], many);
+        let v = any_values(r, product(&axes));
+        let queries = (0..8)
+            .map(|_| {
+                axes.iter()
+                    .map(|a| match r.below(3) {
+                        0 => f64::from_bits(r.next()),
+                        1 => near_node(r, a),
+                        _ => any_class(r, a),
+                    })
+                    .collect()
+            })
+            .collect();
+        o.group("bits", &axes, r.coin(), v, queries);
+    }
+    // The signs of zeros: a node at zero, queries at both zeros and beside them, values of zeros and ones.
+    for i in 0..40 {
+        let many = r.pick(&[1, 1, 1, 1, 2]);
+        let axes: Vec<Axis> = (0..many)
+            .map(|_| {
+                let n = r.pick(&[4, 5]);
+                let k = r.below(n);
+                let step = r.pick(&[1.0, 0.5, 3.0]);
+                let node = |i: usize| (i as f64 - k as f64) * step;
+                if i % 2 == 0 { Axis::Regular { start: node(0), step, n } } else { Axis::Rectilinear((0..n).map(node).collect()) }
+            })
+            .collect();
+        let v = (0..product(&axes)).map(|_| r.pick(&[0.0, -0.0, 1.0, -1.0])).collect();
+        let queries = (0..6).map(|_| (0..many).map(|_| r.pick(&[0.0, -0.0, -0.0, -1e-320, 1e-320])).collect()).collect();
+        o.group("zeros", &axes, r.coin(), v, queries);
+    }
+    // Batches that stop: an unplaceable query among good ones, at the beginning, in the middle, at the end, or two.
+    for i in 0..50 {
+        let many = how_many_axes(r);
+        let axes = grid(r, false, &ordinary, many);
+        let v = any_values(r, product(&axes));
+        let mut queries: Vec<Vec<f64>> = (0..9).map(|_| axes.iter().map(|a| any_class(r, a)).collect()).collect();
+        let any = r.below(9);
+        let stops: [&[usize]; 5] = [&[4], &[0], &[8], &[3, 6], &[any]];
+        for &at in stops[i % 5] {
+            for d in 0..many {
+                if d == at % many || r.one_in(4) {
+                    queries[at][d] = r.pick(&[f64::NAN, f64::INFINITY, f64::NEG_INFINITY, 1e300, -1e300]);
+                }
+            }
+        }
+        o.group("stopped", &axes, r.coin(), v, queries);
+    }
+    // Grids that `new` refuses: first the orders that are easily missed, then faults at random.
+    let regular = |axes: &[(f64, usize)], len: usize| {
+        let axes: Vec<Axis> = axes.iter().map(|&(step, n)| Axis::Regular { start: 0.0, step, n }).collect();
+        Grid::new(&axes, vec![1.0; len], false)
+    };
+    let rectilinear = |axes: &[&[f64]], len: usize| {
+        let axes: Vec<Axis> = axes.iter().map(|a| Axis::Rectilinear(a.to_vec())).collect();
+        Grid::new(&axes, vec![1.0; len], false)
+    };
+    let good: &[f64] = &[0.0, 1.0, 2.0, 3.0];
+    for g in [
+        regular(&[(f64::NAN, 4), (1.0, 3)], 12),
+        regular(&[(1.0, 4), (-0.0, 5), (f64::NAN, 4)], 80),
+        regular(&[(1.0, 3), (1.0, 2)], 5),
+        regular(&[(f64::NAN, 4)], 5),
+        regular(&[(1.0, 4096), (1.0, 4096), (1.0, 0)], 0),
+        regular(&[(1.0, 4096), (1.0, 256), (1.0, 0), (1.0, 4096)], 0),
+        regular(&[(1.0, 4096)], 0),
+        rectilinear(&[&[0.0, 1.0, 2.0, 1.0], &[5.0, 5.0, 6.0, 7.0]], 16),
+        rectilinear(&[&[0.0, 1.0, f64::NAN, 3.0], good, &[f64::NAN, 5.0, 6.0, 7.0]], 64),
+        rectilinear(&[&[0.0, 0.0, 1.0, 2.0], &[0.0, 1.0, 2.0]], 12),
+        rectilinear(&[&[0.0, f64::NAN, 1.0, 2.0]], 4),
+        rectilinear(&[&[-0.0, 0.0, 1.0, 2.0]], 4),
+        rectilinear(&[good, &[]], 0),
+        rectilinear(&[&[f64::INFINITY, f64::INFINITY, f64::INFINITY, f64::INFINITY]], 4),
+    ] {
+        assert!(o.refused(&g));
+    }
+    let mut done = 0;
+    while done < 66 {
+        let many = how_many_axes(r).min(3);
+        let g = faulty(r, done % 2 == 1, many, &mut |r| r.pick(&[4, 4, 5]));
+        done += o.refused(&g) as usize;
+    }
+    // The longest axes, once of each kind.
+    for rectilinear in [false, true] {
+        let axes = [axis(r, rectilinear, "whole", 4096)];
+        let v = values(r, "whole", product(&axes));
+        let mut queries: Vec<Vec<f64>> = (0..30).map(|_| vec![any_class(r, &axes[0])]).collect();
+        queries.extend((0..30).map(|_| vec![near_node(r, &axes[0])]));
+        o.group("long", &axes, rectilinear, v, queries);
+    }
+}
+
+fn main() {
+    let args: Vec<String> = std::env::args().skip(1).collect();
+    let [seed, file] = &args[..] else {
+        eprintln!("usage: corpus SEED FILE");
+        std::process::exit(2);
+    };
+    let seed: u64 = seed.parse().expect("a whole number as the seed");
+    // Where overflow wraps, a case in which the Rust overflows would slip in.
+    let hook = std::panic::take_hook();
+    std::panic::set_hook(Box::new(|_| {}));
+    let wraps = catch_unwind(|| std::hint::black_box(isize::MIN) - 1).is_ok();
+    std::panic::set_hook(hook);
+    if wraps {
+        eprintln!("corpus: run it from target/checked");
+        std::process::exit(2);
+    }
+    let mut r = Rng(seed.wrapping_mul(0x2545f4914f6cdd1d));
+    let mut o = Corpus {
+        words: vec![0],
+        groups: 0,
+        queries: 0,
+        left_out: 0,
+        tally: BTreeMap::new(),
+        classes: BTreeMap::new(),
+    };
+    make(&mut r, &mut o);
+    o.words[0] = o.groups as u64;
+
+    println!("seed {seed}");
+    println!("{:7} words, at most {MOST_WORDS}", o.words.len());
+    println!("{:7} groups", o.groups);
+    println!("{:7} queries", o.queries);
+    println!("{:7} queries left out, their quotient being exactly -2^63", o.left_out);
+    for (what, count) in &o.tally {
+        println!("{count:7} {what}");
+    }
+    println!("places by class, over both modes:");
+    for kind in 0..2 {
+        for n in 1..=4 {
+            for axis in 0..n {
+                let row: Vec<String> = (0..5)
+                    .map(|class| {
+                        let each = [0, 1].map(|mode| o.classes.get(&(kind, mode, n, axis, class)).copied().unwrap_or(0));
+                        assert!(each[0] > 0 && each[1] > 0, "a class is missing");
+                        format!("{} {}", CLASSES[class], each[0] + each[1])
+                    })
+                    .collect();
+                println!("  {}, axis count {n}, axis {axis}: {}", KINDS[kind], row.join(", "));
+            }
+        }
+    }
+    assert!(o.groups >= 600 && o.queries >= 5000 && o.words.len() <= MOST_WORDS);
+    let bytes: Vec<u8> = o.words.iter().flat_map(|w| w.to_le_bytes()).collect();
+    std::fs::write(file, bytes).expect("the file can be written");
+}

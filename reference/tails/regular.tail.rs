@@ -1,0 +1,9 @@
+
+// ---- end of the original text; what follows is added for the test build ----
+
+impl<'a, T: Float, const N: usize> MulticubicRegular<'a, T, N> {
+    /// The private place: origin, and class as 0 None, 1 InsideLow, 2 OutsideLow, 3 InsideHigh, 4 OutsideHigh.
+    pub fn oracle_place(&self, v: T, dim: usize) -> Result<(usize, u8), &'static str> {
+        self.get_loc(v, dim).map(|(origin, class)| (origin, class as u8))
+    }
+}
