@@ -1,1 +1,2 @@
--- The functions' proofs alone.
+-- Laws of the calls.
+pub mod Laws

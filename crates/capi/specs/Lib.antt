@@ -1,2 +1,2 @@
--- The grids that a C program lends.
-pub mod Grids
+-- What the calls for C leave.
+pub mod Calls

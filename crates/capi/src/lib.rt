@@ -1,31 +1,16 @@
 // The calls for C and for other languages that link C: numbers and slices only, of any length. A slice is a pointer and a length. Each gives the
 // number of the scope paper's table, and writes query and axis to `refusal`.
 ghost use mathlib.Core.Path.{_≡_};
-ghost use mathlib.Core.Bool.{_||_};
-ghost use lib.Dec.{ltb};
-ghost use lib.ListN.{length};
 ghost use lib.Ieee.{binary64};
 ghost use Rattle.multicubic.specs.declared.EdgeMode.{EdgeMode};
-ghost use Rattle.multicubic.specs.Answers.{numberOf};
-ghost use Rattle.grid.specs.Query.{outcomeOf, at, valueAnswer, gradientAnswer, placeAnswer};
-ghost use Rattle.grid.specs.Batch.{interpOutcome, interpBuffer, gradOutcome, gradBuffer};
-ghost use Rattle.grid.specs.Internal.{originsAt};
-ghost use Rattle.slices.specs.Slices.{queryFrom, told, withValue, withFirst, modeOf, classNumbers};
-ghost use Rattle.capi.specs.Grids.{regularGrid, rectilinearGrid};
-use grid::origins_of;
-use multicubic::Answer;
-use multicubic::Outcome;
-use slices::any_below;
-use slices::axes_from;
-use slices::check_slices;
-use slices::counts_from;
-use slices::either;
-use slices::mode_of;
-use slices::put_classes;
-use slices::put_floats;
-use slices::put_origins;
-use slices::query_from;
-use slices::tell;
+ghost use Rattle.slices.specs.Slices.{modeOf};
+ghost use Rattle.regular_lent.specs.Regular.{regularFrom};
+ghost use Rattle.rectilinear_lent.specs.Rectilinear.{rectilinearFrom};
+ghost use Rattle.capi.specs.Calls.{newLeaves, getLocLeaves, interpOneLeaves, interpOneGradLeaves, interpLeaves, interpGradLeaves};
+use told::tell;
+use told::tell_gradient;
+use told::tell_places;
+use told::tell_value;
 
 // Takes a grid or turns it away.
 #[no_mangle]
@@ -37,20 +22,14 @@ pub extern "C" fn veltzuma_regular_new(
     vals: &[f64],
     refusal: &mut [usize],
 ) -> u8
-    ensures { λ r. ⌜ ((mode : EdgeMode) → r ≡ numberOf ((regularGrid (ltb (length (now (refusal .entry))) 2) «axis_count» (now (counts .entry)) (now (starts .entry)) (now (steps .entry)) «axis_count» (now (vals .entry)) mode) .checked)) ⌝ }
-    ensures { λ r. ⌜ ((mode : EdgeMode) → now (refusal .exit) ≡ told ((regularGrid (ltb (length (now (refusal .entry))) 2) «axis_count» (now (counts .entry)) (now (starts .entry)) (now (steps .entry)) «axis_count» (now (vals .entry)) mode) .checked) (now (refusal .entry))) ⌝ }
+    ensures { λ r. ⌜
+        ((mode : EdgeMode) → record { number = r; refusal = now (refusal .exit); written = tt }
+        ≡ newLeaves
+        (regularFrom binary64 «axis_count» (now (counts .entry)) (now (starts .entry)) (now (steps .entry)) (now (vals .entry)) mode) (now (refusal .entry)))
+        ⌝ }
 {
-    let axes = axes_from(counts, starts, steps);
-    let short = any_below(
-        axis_count,
-        counts.len(),
-        starts.len(),
-        steps.len(),
-        axis_count,
-    );
-    let missing = refusal.len() < 2;
-    let checked = check_slices(regular::new(axis_count, axes, vals), short, missing);
-    tell(checked, refusal)
+    let outcome = regular_lent::new(axis_count, counts, starts, steps, vals, refusal.len());
+    tell(outcome, refusal)
 }
 
 // The place of a query: origin and class on every axis.
@@ -66,43 +45,25 @@ pub extern "C" fn veltzuma_regular_get_loc(
     origins: &mut [usize],
     classes: &mut [u8],
 ) -> u8
-    ensures { λ r. ⌜ ((mode : EdgeMode) → r ≡ numberOf (outcomeOf (regularGrid (ltb (length (now (refusal .entry))) 2 || ltb (length (now (origins .entry))) «axis_count» || ltb (length (now (classes .entry))) «axis_count») «axis_count» (now (counts .entry)) (now (starts .entry)) (now (steps .entry)) (length (now (x .entry))) (now (vals .entry)) mode) (at (queryFrom (now (x .entry)))))) ⌝ }
-    ensures { λ r. ⌜ ((mode : EdgeMode) → now (refusal .exit) ≡ told (outcomeOf (regularGrid (ltb (length (now (refusal .entry))) 2 || ltb (length (now (origins .entry))) «axis_count» || ltb (length (now (classes .entry))) «axis_count») «axis_count» (now (counts .entry)) (now (starts .entry)) (now (steps .entry)) (length (now (x .entry))) (now (vals .entry)) mode) (at (queryFrom (now (x .entry))))) (now (refusal .entry))) ⌝ }
-    ensures { λ r. ⌜ ((mode : EdgeMode) → now (origins .exit) ≡ withFirst (outcomeOf (regularGrid (ltb (length (now (refusal .entry))) 2 || ltb (length (now (origins .entry))) «axis_count» || ltb (length (now (classes .entry))) «axis_count») «axis_count» (now (counts .entry)) (now (starts .entry)) (now (steps .entry)) (length (now (x .entry))) (now (vals .entry)) mode) (at (queryFrom (now (x .entry))))) «axis_count» (originsAt (placeAnswer (regularGrid (ltb (length (now (refusal .entry))) 2 || ltb (length (now (origins .entry))) «axis_count» || ltb (length (now (classes .entry))) «axis_count») «axis_count» (now (counts .entry)) (now (starts .entry)) (now (steps .entry)) (length (now (x .entry))) (now (vals .entry)) mode) (at (queryFrom (now (x .entry)))))) (now (origins .entry))) ⌝ }
-    ensures { λ r. ⌜ ((mode : EdgeMode) → now (classes .exit) ≡ withFirst (outcomeOf (regularGrid (ltb (length (now (refusal .entry))) 2 || ltb (length (now (origins .entry))) «axis_count» || ltb (length (now (classes .entry))) «axis_count») «axis_count» (now (counts .entry)) (now (starts .entry)) (now (steps .entry)) (length (now (x .entry))) (now (vals .entry)) mode) (at (queryFrom (now (x .entry))))) «axis_count» (classNumbers (placeAnswer (regularGrid (ltb (length (now (refusal .entry))) 2 || ltb (length (now (origins .entry))) «axis_count» || ltb (length (now (classes .entry))) «axis_count») «axis_count» (now (counts .entry)) (now (starts .entry)) (now (steps .entry)) (length (now (x .entry))) (now (vals .entry)) mode) (at (queryFrom (now (x .entry)))))) (now (classes .entry))) ⌝ }
+    ensures { λ r. ⌜
+        ((mode : EdgeMode) → record { number = r; refusal = now (refusal .exit); written = (now (origins .exit), now (classes .exit)) }
+        ≡ getLocLeaves
+        (regularFrom binary64 «axis_count» (now (counts .entry)) (now (starts .entry)) (now (steps .entry)) (now (vals .entry)) mode)
+        (now (x .entry)) (now (refusal .entry)) (now (origins .entry)) (now (classes .entry)))
+        ⌝ }
 {
-    let axes = axes_from(counts, starts, steps);
-    let short = any_below(axis_count, counts.len(), starts.len(), steps.len(), x.len());
-    let missing = either(
-        either(refusal.len() < 2, origins.len() < axis_count),
-        classes.len() < axis_count,
+    let answer = regular_lent::get_loc(
+        axis_count,
+        counts,
+        starts,
+        steps,
+        vals,
+        x,
+        refusal.len(),
+        origins.len(),
+        classes.len(),
     );
-    if either(short, missing) {
-        let checked = check_slices(regular::new(axis_count, axes, vals), short, missing);
-        return tell(checked, refusal);
-    }
-    let loc = regular::get_loc(axis_count, axes, vals, query_from(x));
-    let outcome = loc.outcome;
-    match outcome {
-        Outcome::Refused {
-            number,
-            query,
-            axis,
-        } => tell(
-            Outcome::Refused {
-                number,
-                query,
-                axis,
-            },
-            refusal,
-        ),
-        Outcome::Accepted => {
-            let places = loc.places;
-            put_origins(axis_count, origins_of(places), origins);
-            put_classes(axis_count, places, classes);
-            tell(Outcome::Accepted, refusal)
-        }
-    }
+    tell_places(answer, axis_count, refusal, origins, classes)
 }
 
 // The value at a query.
@@ -118,36 +79,25 @@ pub extern "C" fn veltzuma_regular_interp_one(
     refusal: &mut [usize],
     value: &mut [f64],
 ) -> u8
-    ensures { λ r. ⌜ r ≡ numberOf (outcomeOf (regularGrid (ltb (length (now (refusal .entry))) 2 || ltb (length (now (value .entry))) 1) «axis_count» (now (counts .entry)) (now (starts .entry)) (now (steps .entry)) (length (now (x .entry))) (now (vals .entry)) (modeOf straight)) (at (queryFrom (now (x .entry))))) ⌝ }
-    ensures { λ r. ⌜ now (refusal .exit) ≡ told (outcomeOf (regularGrid (ltb (length (now (refusal .entry))) 2 || ltb (length (now (value .entry))) 1) «axis_count» (now (counts .entry)) (now (starts .entry)) (now (steps .entry)) (length (now (x .entry))) (now (vals .entry)) (modeOf straight)) (at (queryFrom (now (x .entry))))) (now (refusal .entry)) ⌝ }
-    ensures { λ r. ⌜ now (value .exit) ≡ withValue (valueAnswer binary64 (regularGrid (ltb (length (now (refusal .entry))) 2 || ltb (length (now (value .entry))) 1) «axis_count» (now (counts .entry)) (now (starts .entry)) (now (steps .entry)) (length (now (x .entry))) (now (vals .entry)) (modeOf straight)) (at (queryFrom (now (x .entry))))) (now (value .entry)) ⌝ }
+    ensures { λ r. ⌜
+        record { number = r; refusal = now (refusal .exit); written = now (value .exit) }
+        ≡ interpOneLeaves binary64
+        (regularFrom binary64 «axis_count» (now (counts .entry)) (now (starts .entry)) (now (steps .entry)) (now (vals .entry)) (modeOf straight))
+        (now (x .entry)) (now (refusal .entry)) (now (value .entry))
+        ⌝ }
 {
-    let axes = axes_from(counts, starts, steps);
-    let short = any_below(axis_count, counts.len(), starts.len(), steps.len(), x.len());
-    let missing = either(refusal.len() < 2, value.len() < 1);
-    if either(short, missing) {
-        let checked = check_slices(regular::new(axis_count, axes, vals), short, missing);
-        return tell(checked, refusal);
-    }
-    let answer = regular::interp_one(axis_count, axes, vals, mode_of(straight), query_from(x));
-    match answer {
-        Answer::Refused {
-            number,
-            query,
-            axis,
-        } => tell(
-            Outcome::Refused {
-                number,
-                query,
-                axis,
-            },
-            refusal,
-        ),
-        Answer::Value(v) => {
-            value[0] = v;
-            tell(Outcome::Accepted, refusal)
-        }
-    }
+    let answer = regular_lent::interp_one(
+        axis_count,
+        counts,
+        starts,
+        steps,
+        vals,
+        straight,
+        x,
+        refusal.len(),
+        value.len(),
+    );
+    tell_value(answer, refusal, value)
 }
 
 // The gradient at a query.
@@ -163,38 +113,25 @@ pub extern "C" fn veltzuma_regular_interp_one_grad(
     refusal: &mut [usize],
     gradient: &mut [f64],
 ) -> u8
-    ensures { λ r. ⌜ r ≡ numberOf (outcomeOf (regularGrid (ltb (length (now (refusal .entry))) 2 || ltb (length (now (gradient .entry))) «axis_count») «axis_count» (now (counts .entry)) (now (starts .entry)) (now (steps .entry)) (length (now (x .entry))) (now (vals .entry)) (modeOf straight)) (at (queryFrom (now (x .entry))))) ⌝ }
-    ensures { λ r. ⌜ now (refusal .exit) ≡ told (outcomeOf (regularGrid (ltb (length (now (refusal .entry))) 2 || ltb (length (now (gradient .entry))) «axis_count») «axis_count» (now (counts .entry)) (now (starts .entry)) (now (steps .entry)) (length (now (x .entry))) (now (vals .entry)) (modeOf straight)) (at (queryFrom (now (x .entry))))) (now (refusal .entry)) ⌝ }
-    ensures { λ r. ⌜ now (gradient .exit) ≡ withFirst (outcomeOf (regularGrid (ltb (length (now (refusal .entry))) 2 || ltb (length (now (gradient .entry))) «axis_count») «axis_count» (now (counts .entry)) (now (starts .entry)) (now (steps .entry)) (length (now (x .entry))) (now (vals .entry)) (modeOf straight)) (at (queryFrom (now (x .entry))))) «axis_count» (gradientAnswer binary64 (regularGrid (ltb (length (now (refusal .entry))) 2 || ltb (length (now (gradient .entry))) «axis_count») «axis_count» (now (counts .entry)) (now (starts .entry)) (now (steps .entry)) (length (now (x .entry))) (now (vals .entry)) (modeOf straight)) (at (queryFrom (now (x .entry))))) (now (gradient .entry)) ⌝ }
+    ensures { λ r. ⌜
+        record { number = r; refusal = now (refusal .exit); written = now (gradient .exit) }
+        ≡ interpOneGradLeaves binary64
+        (regularFrom binary64 «axis_count» (now (counts .entry)) (now (starts .entry)) (now (steps .entry)) (now (vals .entry)) (modeOf straight))
+        (now (x .entry)) (now (refusal .entry)) (now (gradient .entry))
+        ⌝ }
 {
-    let axes = axes_from(counts, starts, steps);
-    let short = any_below(axis_count, counts.len(), starts.len(), steps.len(), x.len());
-    let missing = either(refusal.len() < 2, gradient.len() < axis_count);
-    if either(short, missing) {
-        let checked = check_slices(regular::new(axis_count, axes, vals), short, missing);
-        return tell(checked, refusal);
-    }
-    let answer = regular::interp_one_grad(axis_count, axes, vals, mode_of(straight), query_from(x));
-    let outcome = answer.outcome;
-    match outcome {
-        Outcome::Refused {
-            number,
-            query,
-            axis,
-        } => tell(
-            Outcome::Refused {
-                number,
-                query,
-                axis,
-            },
-            refusal,
-        ),
-        Outcome::Accepted => {
-            let components = answer.gradient;
-            put_floats(axis_count, components, gradient);
-            tell(Outcome::Accepted, refusal)
-        }
-    }
+    let answer = regular_lent::interp_one_grad(
+        axis_count,
+        counts,
+        starts,
+        steps,
+        vals,
+        straight,
+        x,
+        refusal.len(),
+        gradient.len(),
+    );
+    tell_gradient(answer, axis_count, refusal, gradient)
 }
 
 // The values of a batch.
@@ -210,24 +147,24 @@ pub extern "C" fn veltzuma_regular_interp(
     refusal: &mut [usize],
     out: &mut [f64],
 ) -> u8
-    ensures { λ r. ⌜ r ≡ numberOf (interpOutcome binary64 (regularGrid (ltb (length (now (refusal .entry))) 2) «axis_count» (now (counts .entry)) (now (starts .entry)) (now (steps .entry)) «axis_count» (now (vals .entry)) (modeOf straight)) (now (queries .entry)) (now (out .entry))) ⌝ }
-    ensures { λ r. ⌜ now (refusal .exit) ≡ told (interpOutcome binary64 (regularGrid (ltb (length (now (refusal .entry))) 2) «axis_count» (now (counts .entry)) (now (starts .entry)) (now (steps .entry)) «axis_count» (now (vals .entry)) (modeOf straight)) (now (queries .entry)) (now (out .entry))) (now (refusal .entry)) ⌝ }
-    ensures { λ r. ⌜ now (out .exit) ≡ interpBuffer binary64 (regularGrid (ltb (length (now (refusal .entry))) 2) «axis_count» (now (counts .entry)) (now (starts .entry)) (now (steps .entry)) «axis_count» (now (vals .entry)) (modeOf straight)) (now (queries .entry)) (now (out .entry)) ⌝ }
+    ensures { λ r. ⌜
+        record { number = r; refusal = now (refusal .exit); written = now (out .exit) }
+        ≡ interpLeaves binary64
+        (regularFrom binary64 «axis_count» (now (counts .entry)) (now (starts .entry)) (now (steps .entry)) (now (vals .entry)) (modeOf straight))
+        (now (queries .entry)) (now (refusal .entry)) (now (out .entry))
+        ⌝ }
 {
-    let axes = axes_from(counts, starts, steps);
-    let short = any_below(
+    let outcome = regular_lent::interp(
         axis_count,
-        counts.len(),
-        starts.len(),
-        steps.len(),
-        axis_count,
+        counts,
+        starts,
+        steps,
+        vals,
+        straight,
+        queries,
+        refusal.len(),
+        out,
     );
-    let missing = refusal.len() < 2;
-    if either(short, missing) {
-        let checked = check_slices(regular::new(axis_count, axes, vals), short, missing);
-        return tell(checked, refusal);
-    }
-    let outcome = regular_batch::interp(axis_count, axes, vals, mode_of(straight), queries, out);
     tell(outcome, refusal)
 }
 
@@ -244,29 +181,22 @@ pub extern "C" fn veltzuma_regular_interp_grad(
     refusal: &mut [usize],
     out: &mut [f64],
 ) -> u8
-    ensures { λ r. ⌜ r ≡ numberOf (gradOutcome binary64 (regularGrid (ltb (length (now (refusal .entry))) 2) «axis_count» (now (counts .entry)) (now (starts .entry)) (now (steps .entry)) «axis_count» (now (vals .entry)) (modeOf straight)) (now (queries .entry)) (now (out .entry))) ⌝ }
-    ensures { λ r. ⌜ now (refusal .exit) ≡ told (gradOutcome binary64 (regularGrid (ltb (length (now (refusal .entry))) 2) «axis_count» (now (counts .entry)) (now (starts .entry)) (now (steps .entry)) «axis_count» (now (vals .entry)) (modeOf straight)) (now (queries .entry)) (now (out .entry))) (now (refusal .entry)) ⌝ }
-    ensures { λ r. ⌜ now (out .exit) ≡ gradBuffer binary64 (regularGrid (ltb (length (now (refusal .entry))) 2) «axis_count» (now (counts .entry)) (now (starts .entry)) (now (steps .entry)) «axis_count» (now (vals .entry)) (modeOf straight)) (now (queries .entry)) (now (out .entry)) ⌝ }
+    ensures { λ r. ⌜
+        record { number = r; refusal = now (refusal .exit); written = now (out .exit) }
+        ≡ interpGradLeaves binary64
+        (regularFrom binary64 «axis_count» (now (counts .entry)) (now (starts .entry)) (now (steps .entry)) (now (vals .entry)) (modeOf straight))
+        (now (queries .entry)) (now (refusal .entry)) (now (out .entry))
+        ⌝ }
 {
-    let axes = axes_from(counts, starts, steps);
-    let short = any_below(
+    let outcome = regular_lent::interp_grad(
         axis_count,
-        counts.len(),
-        starts.len(),
-        steps.len(),
-        axis_count,
-    );
-    let missing = refusal.len() < 2;
-    if either(short, missing) {
-        let checked = check_slices(regular::new(axis_count, axes, vals), short, missing);
-        return tell(checked, refusal);
-    }
-    let outcome = regular_batch::interp_grad(
-        axis_count,
-        axes,
+        counts,
+        starts,
+        steps,
         vals,
-        mode_of(straight),
+        straight,
         queries,
+        refusal.len(),
         out,
     );
     tell(outcome, refusal)
@@ -281,18 +211,14 @@ pub extern "C" fn veltzuma_rectilinear_new(
     vals: &[f64],
     refusal: &mut [usize],
 ) -> u8
-    ensures { λ r. ⌜ ((mode : EdgeMode) → r ≡ numberOf ((rectilinearGrid (ltb (length (now (refusal .entry))) 2) «axis_count» (now (counts .entry)) (now (axes .entry)) «axis_count» (now (vals .entry)) mode) .checked)) ⌝ }
-    ensures { λ r. ⌜ ((mode : EdgeMode) → now (refusal .exit) ≡ told ((rectilinearGrid (ltb (length (now (refusal .entry))) 2) «axis_count» (now (counts .entry)) (now (axes .entry)) «axis_count» (now (vals .entry)) mode) .checked) (now (refusal .entry))) ⌝ }
+    ensures { λ r. ⌜
+        ((mode : EdgeMode) → record { number = r; refusal = now (refusal .exit); written = tt }
+        ≡ newLeaves
+        (rectilinearFrom binary64 «axis_count» (now (counts .entry)) (now (axes .entry)) (now (vals .entry)) mode) (now (refusal .entry)))
+        ⌝ }
 {
-    let four = counts_from(counts);
-    let short = either(counts.len() < axis_count, axis_count < axis_count);
-    let missing = refusal.len() < 2;
-    let checked = check_slices(
-        rectilinear::new(axis_count, four, axes, vals),
-        short,
-        missing,
-    );
-    tell(checked, refusal)
+    let outcome = rectilinear_lent::new(axis_count, counts, axes, vals, refusal.len());
+    tell(outcome, refusal)
 }
 
 // The place of a query: origin and class on every axis.
@@ -307,47 +233,24 @@ pub extern "C" fn veltzuma_rectilinear_get_loc(
     origins: &mut [usize],
     classes: &mut [u8],
 ) -> u8
-    ensures { λ r. ⌜ ((mode : EdgeMode) → r ≡ numberOf (outcomeOf (rectilinearGrid (ltb (length (now (refusal .entry))) 2 || ltb (length (now (origins .entry))) «axis_count» || ltb (length (now (classes .entry))) «axis_count») «axis_count» (now (counts .entry)) (now (axes .entry)) (length (now (x .entry))) (now (vals .entry)) mode) (at (queryFrom (now (x .entry)))))) ⌝ }
-    ensures { λ r. ⌜ ((mode : EdgeMode) → now (refusal .exit) ≡ told (outcomeOf (rectilinearGrid (ltb (length (now (refusal .entry))) 2 || ltb (length (now (origins .entry))) «axis_count» || ltb (length (now (classes .entry))) «axis_count») «axis_count» (now (counts .entry)) (now (axes .entry)) (length (now (x .entry))) (now (vals .entry)) mode) (at (queryFrom (now (x .entry))))) (now (refusal .entry))) ⌝ }
-    ensures { λ r. ⌜ ((mode : EdgeMode) → now (origins .exit) ≡ withFirst (outcomeOf (rectilinearGrid (ltb (length (now (refusal .entry))) 2 || ltb (length (now (origins .entry))) «axis_count» || ltb (length (now (classes .entry))) «axis_count») «axis_count» (now (counts .entry)) (now (axes .entry)) (length (now (x .entry))) (now (vals .entry)) mode) (at (queryFrom (now (x .entry))))) «axis_count» (originsAt (placeAnswer (rectilinearGrid (ltb (length (now (refusal .entry))) 2 || ltb (length (now (origins .entry))) «axis_count» || ltb (length (now (classes .entry))) «axis_count») «axis_count» (now (counts .entry)) (now (axes .entry)) (length (now (x .entry))) (now (vals .entry)) mode) (at (queryFrom (now (x .entry)))))) (now (origins .entry))) ⌝ }
-    ensures { λ r. ⌜ ((mode : EdgeMode) → now (classes .exit) ≡ withFirst (outcomeOf (rectilinearGrid (ltb (length (now (refusal .entry))) 2 || ltb (length (now (origins .entry))) «axis_count» || ltb (length (now (classes .entry))) «axis_count») «axis_count» (now (counts .entry)) (now (axes .entry)) (length (now (x .entry))) (now (vals .entry)) mode) (at (queryFrom (now (x .entry))))) «axis_count» (classNumbers (placeAnswer (rectilinearGrid (ltb (length (now (refusal .entry))) 2 || ltb (length (now (origins .entry))) «axis_count» || ltb (length (now (classes .entry))) «axis_count») «axis_count» (now (counts .entry)) (now (axes .entry)) (length (now (x .entry))) (now (vals .entry)) mode) (at (queryFrom (now (x .entry)))))) (now (classes .entry))) ⌝ }
+    ensures { λ r. ⌜
+        ((mode : EdgeMode) → record { number = r; refusal = now (refusal .exit); written = (now (origins .exit), now (classes .exit)) }
+        ≡ getLocLeaves
+        (rectilinearFrom binary64 «axis_count» (now (counts .entry)) (now (axes .entry)) (now (vals .entry)) mode)
+        (now (x .entry)) (now (refusal .entry)) (now (origins .entry)) (now (classes .entry)))
+        ⌝ }
 {
-    let four = counts_from(counts);
-    let short = either(counts.len() < axis_count, x.len() < axis_count);
-    let missing = either(
-        either(refusal.len() < 2, origins.len() < axis_count),
-        classes.len() < axis_count,
+    let answer = rectilinear_lent::get_loc(
+        axis_count,
+        counts,
+        axes,
+        vals,
+        x,
+        refusal.len(),
+        origins.len(),
+        classes.len(),
     );
-    if either(short, missing) {
-        let checked = check_slices(
-            rectilinear::new(axis_count, four, axes, vals),
-            short,
-            missing,
-        );
-        return tell(checked, refusal);
-    }
-    let loc = rectilinear::get_loc(axis_count, four, axes, vals, query_from(x));
-    let outcome = loc.outcome;
-    match outcome {
-        Outcome::Refused {
-            number,
-            query,
-            axis,
-        } => tell(
-            Outcome::Refused {
-                number,
-                query,
-                axis,
-            },
-            refusal,
-        ),
-        Outcome::Accepted => {
-            let places = loc.places;
-            put_origins(axis_count, origins_of(places), origins);
-            put_classes(axis_count, places, classes);
-            tell(Outcome::Accepted, refusal)
-        }
-    }
+    tell_places(answer, axis_count, refusal, origins, classes)
 }
 
 // The value at a query.
@@ -362,47 +265,24 @@ pub extern "C" fn veltzuma_rectilinear_interp_one(
     refusal: &mut [usize],
     value: &mut [f64],
 ) -> u8
-    ensures { λ r. ⌜ r ≡ numberOf (outcomeOf (rectilinearGrid (ltb (length (now (refusal .entry))) 2 || ltb (length (now (value .entry))) 1) «axis_count» (now (counts .entry)) (now (axes .entry)) (length (now (x .entry))) (now (vals .entry)) (modeOf straight)) (at (queryFrom (now (x .entry))))) ⌝ }
-    ensures { λ r. ⌜ now (refusal .exit) ≡ told (outcomeOf (rectilinearGrid (ltb (length (now (refusal .entry))) 2 || ltb (length (now (value .entry))) 1) «axis_count» (now (counts .entry)) (now (axes .entry)) (length (now (x .entry))) (now (vals .entry)) (modeOf straight)) (at (queryFrom (now (x .entry))))) (now (refusal .entry)) ⌝ }
-    ensures { λ r. ⌜ now (value .exit) ≡ withValue (valueAnswer binary64 (rectilinearGrid (ltb (length (now (refusal .entry))) 2 || ltb (length (now (value .entry))) 1) «axis_count» (now (counts .entry)) (now (axes .entry)) (length (now (x .entry))) (now (vals .entry)) (modeOf straight)) (at (queryFrom (now (x .entry))))) (now (value .entry)) ⌝ }
+    ensures { λ r. ⌜
+        record { number = r; refusal = now (refusal .exit); written = now (value .exit) }
+        ≡ interpOneLeaves binary64
+        (rectilinearFrom binary64 «axis_count» (now (counts .entry)) (now (axes .entry)) (now (vals .entry)) (modeOf straight))
+        (now (x .entry)) (now (refusal .entry)) (now (value .entry))
+        ⌝ }
 {
-    let four = counts_from(counts);
-    let short = either(counts.len() < axis_count, x.len() < axis_count);
-    let missing = either(refusal.len() < 2, value.len() < 1);
-    if either(short, missing) {
-        let checked = check_slices(
-            rectilinear::new(axis_count, four, axes, vals),
-            short,
-            missing,
-        );
-        return tell(checked, refusal);
-    }
-    let answer = rectilinear::interp_one(
+    let answer = rectilinear_lent::interp_one(
         axis_count,
-        four,
+        counts,
         axes,
         vals,
-        mode_of(straight),
-        query_from(x),
+        straight,
+        x,
+        refusal.len(),
+        value.len(),
     );
-    match answer {
-        Answer::Refused {
-            number,
-            query,
-            axis,
-        } => tell(
-            Outcome::Refused {
-                number,
-                query,
-                axis,
-            },
-            refusal,
-        ),
-        Answer::Value(v) => {
-            value[0] = v;
-            tell(Outcome::Accepted, refusal)
-        }
-    }
+    tell_value(answer, refusal, value)
 }
 
 // The gradient at a query.
@@ -417,49 +297,24 @@ pub extern "C" fn veltzuma_rectilinear_interp_one_grad(
     refusal: &mut [usize],
     gradient: &mut [f64],
 ) -> u8
-    ensures { λ r. ⌜ r ≡ numberOf (outcomeOf (rectilinearGrid (ltb (length (now (refusal .entry))) 2 || ltb (length (now (gradient .entry))) «axis_count») «axis_count» (now (counts .entry)) (now (axes .entry)) (length (now (x .entry))) (now (vals .entry)) (modeOf straight)) (at (queryFrom (now (x .entry))))) ⌝ }
-    ensures { λ r. ⌜ now (refusal .exit) ≡ told (outcomeOf (rectilinearGrid (ltb (length (now (refusal .entry))) 2 || ltb (length (now (gradient .entry))) «axis_count») «axis_count» (now (counts .entry)) (now (axes .entry)) (length (now (x .entry))) (now (vals .entry)) (modeOf straight)) (at (queryFrom (now (x .entry))))) (now (refusal .entry)) ⌝ }
-    ensures { λ r. ⌜ now (gradient .exit) ≡ withFirst (outcomeOf (rectilinearGrid (ltb (length (now (refusal .entry))) 2 || ltb (length (now (gradient .entry))) «axis_count») «axis_count» (now (counts .entry)) (now (axes .entry)) (length (now (x .entry))) (now (vals .entry)) (modeOf straight)) (at (queryFrom (now (x .entry))))) «axis_count» (gradientAnswer binary64 (rectilinearGrid (ltb (length (now (refusal .entry))) 2 || ltb (length (now (gradient .entry))) «axis_count») «axis_count» (now (counts .entry)) (now (axes .entry)) (length (now (x .entry))) (now (vals .entry)) (modeOf straight)) (at (queryFrom (now (x .entry))))) (now (gradient .entry)) ⌝ }
+    ensures { λ r. ⌜
+        record { number = r; refusal = now (refusal .exit); written = now (gradient .exit) }
+        ≡ interpOneGradLeaves binary64
+        (rectilinearFrom binary64 «axis_count» (now (counts .entry)) (now (axes .entry)) (now (vals .entry)) (modeOf straight))
+        (now (x .entry)) (now (refusal .entry)) (now (gradient .entry))
+        ⌝ }
 {
-    let four = counts_from(counts);
-    let short = either(counts.len() < axis_count, x.len() < axis_count);
-    let missing = either(refusal.len() < 2, gradient.len() < axis_count);
-    if either(short, missing) {
-        let checked = check_slices(
-            rectilinear::new(axis_count, four, axes, vals),
-            short,
-            missing,
-        );
-        return tell(checked, refusal);
-    }
-    let answer = rectilinear::interp_one_grad(
+    let answer = rectilinear_lent::interp_one_grad(
         axis_count,
-        four,
+        counts,
         axes,
         vals,
-        mode_of(straight),
-        query_from(x),
+        straight,
+        x,
+        refusal.len(),
+        gradient.len(),
     );
-    let outcome = answer.outcome;
-    match outcome {
-        Outcome::Refused {
-            number,
-            query,
-            axis,
-        } => tell(
-            Outcome::Refused {
-                number,
-                query,
-                axis,
-            },
-            refusal,
-        ),
-        Outcome::Accepted => {
-            let components = answer.gradient;
-            put_floats(axis_count, components, gradient);
-            tell(Outcome::Accepted, refusal)
-        }
-    }
+    tell_gradient(answer, axis_count, refusal, gradient)
 }
 
 // The values of a batch.
@@ -474,28 +329,21 @@ pub extern "C" fn veltzuma_rectilinear_interp(
     refusal: &mut [usize],
     out: &mut [f64],
 ) -> u8
-    ensures { λ r. ⌜ r ≡ numberOf (interpOutcome binary64 (rectilinearGrid (ltb (length (now (refusal .entry))) 2) «axis_count» (now (counts .entry)) (now (axes .entry)) «axis_count» (now (vals .entry)) (modeOf straight)) (now (queries .entry)) (now (out .entry))) ⌝ }
-    ensures { λ r. ⌜ now (refusal .exit) ≡ told (interpOutcome binary64 (rectilinearGrid (ltb (length (now (refusal .entry))) 2) «axis_count» (now (counts .entry)) (now (axes .entry)) «axis_count» (now (vals .entry)) (modeOf straight)) (now (queries .entry)) (now (out .entry))) (now (refusal .entry)) ⌝ }
-    ensures { λ r. ⌜ now (out .exit) ≡ interpBuffer binary64 (rectilinearGrid (ltb (length (now (refusal .entry))) 2) «axis_count» (now (counts .entry)) (now (axes .entry)) «axis_count» (now (vals .entry)) (modeOf straight)) (now (queries .entry)) (now (out .entry)) ⌝ }
+    ensures { λ r. ⌜
+        record { number = r; refusal = now (refusal .exit); written = now (out .exit) }
+        ≡ interpLeaves binary64
+        (rectilinearFrom binary64 «axis_count» (now (counts .entry)) (now (axes .entry)) (now (vals .entry)) (modeOf straight))
+        (now (queries .entry)) (now (refusal .entry)) (now (out .entry))
+        ⌝ }
 {
-    let four = counts_from(counts);
-    let short = either(counts.len() < axis_count, axis_count < axis_count);
-    let missing = refusal.len() < 2;
-    if either(short, missing) {
-        let checked = check_slices(
-            rectilinear::new(axis_count, four, axes, vals),
-            short,
-            missing,
-        );
-        return tell(checked, refusal);
-    }
-    let outcome = rectilinear_batch::interp(
+    let outcome = rectilinear_lent::interp(
         axis_count,
-        four,
+        counts,
         axes,
         vals,
-        mode_of(straight),
+        straight,
         queries,
+        refusal.len(),
         out,
     );
     tell(outcome, refusal)
@@ -513,28 +361,21 @@ pub extern "C" fn veltzuma_rectilinear_interp_grad(
     refusal: &mut [usize],
     out: &mut [f64],
 ) -> u8
-    ensures { λ r. ⌜ r ≡ numberOf (gradOutcome binary64 (rectilinearGrid (ltb (length (now (refusal .entry))) 2) «axis_count» (now (counts .entry)) (now (axes .entry)) «axis_count» (now (vals .entry)) (modeOf straight)) (now (queries .entry)) (now (out .entry))) ⌝ }
-    ensures { λ r. ⌜ now (refusal .exit) ≡ told (gradOutcome binary64 (rectilinearGrid (ltb (length (now (refusal .entry))) 2) «axis_count» (now (counts .entry)) (now (axes .entry)) «axis_count» (now (vals .entry)) (modeOf straight)) (now (queries .entry)) (now (out .entry))) (now (refusal .entry)) ⌝ }
-    ensures { λ r. ⌜ now (out .exit) ≡ gradBuffer binary64 (rectilinearGrid (ltb (length (now (refusal .entry))) 2) «axis_count» (now (counts .entry)) (now (axes .entry)) «axis_count» (now (vals .entry)) (modeOf straight)) (now (queries .entry)) (now (out .entry)) ⌝ }
+    ensures { λ r. ⌜
+        record { number = r; refusal = now (refusal .exit); written = now (out .exit) }
+        ≡ interpGradLeaves binary64
+        (rectilinearFrom binary64 «axis_count» (now (counts .entry)) (now (axes .entry)) (now (vals .entry)) (modeOf straight))
+        (now (queries .entry)) (now (refusal .entry)) (now (out .entry))
+        ⌝ }
 {
-    let four = counts_from(counts);
-    let short = either(counts.len() < axis_count, axis_count < axis_count);
-    let missing = refusal.len() < 2;
-    if either(short, missing) {
-        let checked = check_slices(
-            rectilinear::new(axis_count, four, axes, vals),
-            short,
-            missing,
-        );
-        return tell(checked, refusal);
-    }
-    let outcome = rectilinear_batch::interp_grad(
+    let outcome = rectilinear_lent::interp_grad(
         axis_count,
-        four,
+        counts,
         axes,
         vals,
-        mode_of(straight),
+        straight,
         queries,
+        refusal.len(),
         out,
     );
     tell(outcome, refusal)

@@ -2,7 +2,6 @@
 // One line for each case, and how many agree.
 use cases_calls::Score;
 use cases_calls::answered;
-use cases_calls::clear;
 use cases_calls::cubic;
 use cases_calls::rectilinear;
 use cases_calls::rectilinear_refused_order;
@@ -14,15 +13,15 @@ use cases_calls::walk;
 use cases_calls::with_buffers;
 use cases_calls::zeros;
 use cases_refusals::refusals;
-use replay_batches::marked_words;
-use replay_batches::run_interp;
-use replay_batches::run_interp_grad;
-use replay_calls::same_single;
-use replay_corpus::Expected;
-use replay_corpus::Group;
-use replay_corpus::part;
-use replay_report::say;
-use replay_report::say_number;
+use harness_batches::marked_words;
+use harness_batches::run_batches;
+use harness_calls::same_single;
+use harness_corpus::Group;
+use harness_corpus::part;
+use harness_corpus::refusal;
+use harness_report::say;
+use harness_report::say_number;
+use harness_words::clear;
 
 // 01's numbers, which hold on both kinds: at 1.5 3.375, slope 6.25; at 4 as given.
 fn cubes_on(s: Score, g: Group, value: u64, slope: u64, at_1_5: &[u8], at_4: &[u8]) -> Score {
@@ -167,18 +166,9 @@ fn rectilinear_batches(s: Score, z: &[f64]) -> Score {
 
 // Refusal 8 of a single query, on the lower of two such axes.
 fn unplaceable(s: Score, z: &[f64]) -> Score {
-    let e = Expected {
-        state: 0,
-        number: 8,
-        axis: 1,
-        places: [0; 4],
-        value: 0,
-        gradient: [0; 4],
-        next: 0,
-    };
     let g = regular(3, 4, 4, 4, 1.0, 1.0);
     let x = [1.5, 9223372036854775808.0, 0.0 / 0.0, 1.5];
-    let t = same_single(clear(), g, z, part(z, 0, 64), x, e);
+    let t = same_single(clear(), g, z, part(z, 0, 64), x, refusal(8, 1));
     told(s, t, b"regular, 8: axis 1 of a single query")
 }
 
@@ -210,8 +200,8 @@ fn stopped(s: Score, z: &[f64]) -> Score {
     let mut slopes = marked_words();
     slopes[0] = 0x4019_0000_0000_0000;
     slopes[3] = 0;
-    let t = run_interp(g, z, &vals, &queries, walk(clear(), 8, 1, 1), &values);
-    let t = run_interp_grad(g, z, &vals, &queries, walk(t, 8, 1, 1), &slopes);
+    let w = walk(clear(), 8, 1, 1);
+    let t = run_batches(g, z, &vals, &queries, w, &values, &slopes);
     told(s, t, b"regular, 8: query 1 of a batch, axis 1")
 }
 

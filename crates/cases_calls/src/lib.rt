@@ -1,22 +1,23 @@
 // What the program `cases` makes a case of: grids, and the calls of a case with their comparison and its line.
 ghost use mathlib.Core.Path.{_≡_};
 ghost use lib.ListN.{length};
+use harness_batches::Walk;
+use harness_batches::marked_words;
+use harness_batches::run_batches;
+use harness_calls::NEW;
+use harness_calls::call_new;
+use harness_calls::same_outcome;
+use harness_calls::same_single;
+use harness_corpus::Expected;
+use harness_corpus::Group;
+use harness_corpus::part;
+use harness_corpus::refusal;
+use harness_report::say;
+use harness_report::say_difference_in;
+use harness_words::Tally;
+use harness_words::clear;
 use multicubic::Axis;
 use multicubic::EdgeMode;
-use replay_batches::Walk;
-use replay_batches::marked_words;
-use replay_batches::run_interp;
-use replay_batches::run_interp_grad;
-use replay_calls::NEW;
-use replay_calls::call_new;
-use replay_calls::same_outcome;
-use replay_calls::same_single;
-use replay_corpus::Expected;
-use replay_corpus::Group;
-use replay_corpus::part;
-use replay_report::say;
-use replay_report::say_difference_in;
-use replay_words::Tally;
 
 // How many cases there were, and how many of them agree.
 pub struct Score {
@@ -40,21 +41,6 @@ pub fn told(s: Score, t: Tally, name: &[u8]) -> Score {
     }
     say(b"\n");
     r
-}
-
-pub fn clear() -> Tally {
-    Tally {
-        state: 0,
-        groups: 0,
-        queries: 0,
-        comparisons: 0,
-        query: 0,
-        call: 0,
-        item: 0,
-        place: 0,
-        expected: 0,
-        found: 0,
-    }
 }
 
 pub fn walk(t: Tally, number: u64, query: u64, axis: u64) -> Walk {
@@ -122,6 +108,11 @@ pub fn with_buffers(g: Group, count: usize, entries: usize) -> Group {
     r
 }
 
+// What `new` gives of the grid, compared.
+fn made(g: Group, axes: &[f64], vals: &[f64], number: u64, axis: u64) -> Tally {
+    same_outcome(clear(), NEW, number, 0, axis, call_new(g, axes, vals))
+}
+
 // Every one of the six calls gives the refusal, and the buffers keep their contents.
 fn refused(
     s: Score,
@@ -132,20 +123,11 @@ fn refused(
     axis: u64,
     name: &[u8],
 ) -> Score {
-    let e = Expected {
-        state: 0,
-        number,
-        axis,
-        places: [0; 4],
-        value: 0,
-        gradient: [0; 4],
-        next: 0,
-    };
     let before = marked_words();
-    let t = same_outcome(clear(), NEW, number, 0, axis, call_new(g, axes, vals));
-    let t = same_single(t, g, axes, vals, [0.5; 4], e);
-    let t = run_interp(g, axes, vals, &[0.5; 2], walk(t, number, 0, axis), &before);
-    let t = run_interp_grad(g, axes, vals, &[0.5; 4], walk(t, number, 0, axis), &before);
+    let t = made(g, axes, vals, number, axis);
+    let t = same_single(t, g, axes, vals, [0.5; 4], refusal(number, axis));
+    let w = walk(t, number, 0, axis);
+    let t = run_batches(g, axes, vals, &[0.5; 4], w, &before, &before);
     told(s, t, name)
 }
 
@@ -159,9 +141,8 @@ pub fn refused_batch(
     name: &[u8],
 ) -> Score {
     let before = marked_words();
-    let t = same_outcome(clear(), NEW, 0, 0, 0, call_new(g, axes, vals));
-    let t = run_interp(g, axes, vals, queries, walk(t, 7, 0, 0), &before);
-    let t = run_interp_grad(g, axes, vals, queries, walk(t, 7, 0, 0), &before);
+    let w = walk(made(g, axes, vals, 0, 0), 7, 0, 0);
+    let t = run_batches(g, axes, vals, queries, w, &before, &before);
     told(s, t, name)
 }
 
@@ -169,23 +150,8 @@ pub fn refused_batch(
 pub fn taken(s: Score, g: Group, axes: &[f64], vals: &[f64], name: &[u8]) -> Score {
     let before = marked_words();
     let none = with_buffers(g, 0, 0);
-    let t = same_outcome(clear(), NEW, 0, 0, 0, call_new(g, axes, vals));
-    let t = run_interp(
-        none,
-        axes,
-        vals,
-        part(axes, 0, 0),
-        walk(t, 0, 0, 0),
-        &before,
-    );
-    let t = run_interp_grad(
-        none,
-        axes,
-        vals,
-        part(axes, 0, 0),
-        walk(t, 0, 0, 0),
-        &before,
-    );
+    let w = walk(made(g, axes, vals, 0, 0), 0, 0, 0);
+    let t = run_batches(none, axes, vals, part(axes, 0, 0), w, &before, &before);
     told(s, t, name)
 }
 
@@ -215,10 +181,10 @@ pub fn answered(
     let mut slopes = marked_words();
     slopes[0] = slope;
     let one = with_buffers(g, 1, 1);
-    let t = same_outcome(clear(), NEW, 0, 0, 0, call_new(g, axes, vals));
+    let t = made(g, axes, vals, 0, 0);
     let t = same_single(t, g, axes, vals, [x, 0.0, 0.0, 0.0], e);
-    let t = run_interp(one, axes, vals, &[x], walk(t, 0, 0, 0), &values);
-    let t = run_interp_grad(one, axes, vals, &[x], walk(t, 0, 0, 0), &slopes);
+    let w = walk(t, 0, 0, 0);
+    let t = run_batches(one, axes, vals, &[x], w, &values, &slopes);
     told(s, t, name)
 }
 

@@ -1,5 +1,5 @@
 -- Demand 3, nodes: on a grid whose axes have the node law, the value of a query at a node is the number stored there. The axis count is a
--- parameter. Assumes nothing.
+-- parameter.
 use mathlib.Core.Path.{_≡_, refl, sym, ap, subst}
 use mathlib.Core.List.{List, [], _∷_}
 use Prim.Native.Nat.{ℕ, zero, suc, _+_, _-_, _*_, _≤_, _<_}
@@ -16,11 +16,12 @@ use Rattle.ieee.specs.Numbers.{zero as nought}
 use Rattle.multicubic.specs.declared.Outcome.the-variants.{Accepted, Refused}
 use Rattle.multicubic.specs.declared.Answer.the-variants.{Value}
 use Rattle.multicubic.specs.Grid.{product, _then_}
+use Rattle.multicubic.specs.Answers.{answered}
 use Rattle.multicubic.specs.Place.{originOf, Placed}
 use Rattle.reduction.specs.Value.{stridesOf, offset, shifted, valueAt, reduceOf}
 use Rattle.reduction.specs.Nodes.{OneAtEach, InBlock}
 use Rattle.reduction.proofs.Blocks.{Held, value-at-node}
-use Rattle.grid.specs.Query.{GridAxis, Grid, places, located, find, countsOf, gridCounts, originsOf, rowsOf, blockOf, valueOf, answered, cases, valueAnswer}
+use Rattle.grid.specs.Query.{GridAxis, Grid, places, located, find, countsOf, gridCounts, originsOf, rowsOf, blockOf, valueOf, cases, valueAnswer}
 use Rattle.grid.specs.Nodes.{AtIndex, stored, FiniteValues, Fits}
 use Rattle.grid.proofs.Premises.{NodeLaws, Long, Sized}
 

@@ -1,4 +1,4 @@
--- What a batch leaves in its buffer and what it answers: entry by entry, and the lowest query that has no place. Assumes nothing.
+-- What a batch leaves in its buffer and what it answers: entry by entry, and the lowest query that has no place.
 use mathlib.Core.Path.{_≡_, refl, sym, ap, _∙_}
 use mathlib.Core.Logic.{_↔_, _≢_, _⊎_, inl, inr, ⊎-elim}
 use mathlib.Core.Bool.{not, _||_}
@@ -229,15 +229,14 @@ found-length s (g ∷ gs) query ps r = go (outcome g (query s)) (find (suc s) gs
     go (placed p) (places qs) rec r = let z : p ∷ qs ≡ ps = cc in sym (ap length z) ∙ ap suc (rec qs refl)
 
 -- ---- the two writes
-module _ (f : Format) (counts : List ℕ) (vals : List Float) where
-  -- query i's value is at i
-  pub value-entry : (c n i : ℕ) → i < c → Entry (putValue f counts vals) c n c i i (valueOf f counts vals)
-  value-entry c n i h =
-      record {
-        own = λ ps b w l. getD-set-same b i (valueOf f counts vals ps) nan (rw l h);
-        other = λ j ps b k m. getD-set-other b j i (valueOf f counts vals ps) nan (λ z. m (sym z));
-        same-length = λ j ps b. length-set b j (valueOf f counts vals ps);
-      }
+-- query i's number is at i
+pub put-entry : (val : List Placed → Float) (c n i : ℕ) → i < c → Entry (λ j ps b. set b j (val ps)) c n c i i val
+put-entry val c n i h =
+    record {
+      own = λ ps b w l. getD-set-same b i (val ps) nan (rw l h);
+      other = λ j ps b k m. getD-set-other b j i (val ps) nan (λ z. m (sym z));
+      same-length = λ j ps b. length-set b j (val ps);
+    }
 
 module _ (c : ℕ) where
   columns-length : (xs : List Float) (at : ℕ) (b : List Float) → length (putColumns c at xs b) ≡ length b
@@ -323,6 +322,13 @@ module _ (f : Format) (g : Grid) (queries buffer : List Float) where
   abbrev gradientFound : ℕ → Found
   gradientFound = foundAt (g .axes) gradientCount queries
 
+  -- the checks, as the code runs them
+  pub value-checked : (checked r : Outcome) → checked ≡ g .checked → r ≡ (checked then checkBatch (g .axis-count) (length buffer) (length queries) (length buffer) (length buffer)) → valueChecks f g queries buffer ≡ r
+  value-checked checked r e k = sym (k ∙ ap (λ (o : Outcome). o then checkBatch (g .axis-count) (length buffer) (length queries) (length buffer) (length buffer)) e)
+
+  pub gradient-checked : (checked r : Outcome) → checked ≡ g .checked → r ≡ (checked then checkBatch (g .axis-count) gradientCount (length queries) (g .axis-count * gradientCount) (length buffer)) → gradientChecks f g queries buffer ≡ r
+  gradient-checked checked r e k = sym (k ∙ ap (λ (o : Outcome). o then checkBatch (g .axis-count) gradientCount (length queries) (g .axis-count * gradientCount) (length buffer)) e)
+
   -- refusals 1 to 7
   pub interp-unwritten : (number query axis : ℕ) → valueChecks f g queries buffer ≡ Refused number query axis → interpBuffer f g queries buffer ≡ buffer
   interp-unwritten number query axis e = refused-buffer (valueChecks f g queries buffer) number query axis buffer _ e
@@ -349,6 +355,9 @@ module _ (f : Format) (g : Grid) (queries buffer : List Float) where
 
   -- `interp` past its checks
   module _ (checked : valueChecks f g queries buffer ≡ Accepted) where
+    pub interp-lengths : length queries ≡ g .axis-count * length buffer
+    interp-lengths = lengths-checked (g .checked) (g .axis-count) (length buffer) (length queries) (length buffer) (length buffer) checked .0
+
     pub interp-answers : interpOutcome f g queries buffer ≡ outcomeFrom valueFound 0 (length buffer)
     interp-answers = accepted-first (valueChecks f g queries buffer) _ checked
 
@@ -365,16 +374,19 @@ module _ (f : Format) (g : Grid) (queries buffer : List Float) where
     interp-holds i h all ps p =
         ap (λ (b : List Float). getD b i nan) (accepted-buffer (valueChecks f g queries buffer) buffer _ checked)
         ∙ holds valueFound (putValue f (gridCounts g) (g .vals)) (length buffer) (length (g .axes)) (length buffer) i i (valueOf f (gridCounts g) (g .vals))
-        (value-entry f (gridCounts g) (g .vals) (length buffer) (length (g .axes)) i h) (λ j qs q. found-length 0 (g .axes) _ qs q) buffer refl h all ps p
+        (put-entry (valueOf f (gridCounts g) (g .vals)) (length buffer) (length (g .axes)) i h) (λ j qs q. found-length 0 (g .axes) _ qs q) buffer refl h all ps p
 
     pub interp-keeps : (i j a : ℕ) → i < length buffer → j ≤ i → valueFound j ≡ unplaceableAt a → getD (interpBuffer f g queries buffer) i nan ≡ getD buffer i nan
     interp-keeps i j a h l u =
         ap (λ (b : List Float). getD b i nan) (accepted-buffer (valueChecks f g queries buffer) buffer _ checked)
         ∙ keeps valueFound (putValue f (gridCounts g) (g .vals)) (length buffer) (length (g .axes)) (length buffer) i i (valueOf f (gridCounts g) (g .vals))
-        (value-entry f (gridCounts g) (g .vals) (length buffer) (length (g .axes)) i h) buffer j a l u
+        (put-entry (valueOf f (gridCounts g) (g .vals)) (length buffer) (length (g .axes)) i h) buffer j a l u
 
   -- `interp_grad` past its checks
   module _ (checked : gradientChecks f g queries buffer ≡ Accepted) where
+    pub grad-lengths : (length queries ≡ g .axis-count * gradientCount) × (length buffer ≡ g .axis-count * gradientCount)
+    grad-lengths = lengths-checked (g .checked) (g .axis-count) gradientCount (length queries) (g .axis-count * gradientCount) (length buffer) checked
+
     pub grad-answers : gradOutcome f g queries buffer ≡ outcomeFrom gradientFound 0 gradientCount
     grad-answers = accepted-first (gradientChecks f g queries buffer) _ checked
 

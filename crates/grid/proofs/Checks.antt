@@ -1,4 +1,4 @@
--- Check 7 by the tests that decide it. Assumes nothing.
+-- Check 7 by the tests that decide it.
 use mathlib.Core.Path.{_≡_, refl}
 use Prim.Native.Nat.{ℕ, _*_, _≤_, _<_}
 use borrow.Author.Tests.{lt-ltb, le-ltb, eq-eqb, ne-eqb}

@@ -1,4 +1,4 @@
--- Facts about every entry of a list, from one computed test. For examples. Assumes nothing.
+-- Facts about every entry of a list, from one computed test. For examples.
 use mathlib.Core.Bool.{Bool, true, _&&_}
 use mathlib.Core.List.{List, [], _∷_}
 use Prim.Native.Nat.{ℕ, zero, suc, _<_}

@@ -6,7 +6,9 @@ pub mod Locating
 pub mod AtNodes
 pub mod OfBlocks
 pub mod Batches
-pub mod Evaluating
+pub mod Fit
+pub mod Answering
+pub mod Singles
 pub mod Running
 pub mod InBatches
 pub mod Decide

@@ -1,4 +1,4 @@
--- What the laws below ask of a grid and its axes. Each kind of grid has it from its checks and from 01's premises. Assumes nothing.
+-- What the laws below ask of a grid and its axes. Each kind of grid has it from its checks and from 01's premises.
 use Prim.Native.Nat.{ℕ, _≤_, _<_}
 use mathlib.Core.Path.{_≡_}
 use mathlib.Core.List.{List}

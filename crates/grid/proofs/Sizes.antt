@@ -1,4 +1,4 @@
--- What passing checks 1 to 4 says of a grid. Assumes nothing.
+-- What passing checks 1 to 4 says of a grid.
 use mathlib.Core.Path.{_≡_, sym, ap, _∙_, subst}
 use mathlib.Core.List.{List, [], _∷_}
 use Prim.Native.Nat.{ℕ, suc, _≤_, _<_}

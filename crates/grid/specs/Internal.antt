@@ -2,54 +2,65 @@
 -- entry points' contracts do not mention it.
 use Prim.Native.Nat.{ℕ, _+_, _*_, _≤_, _<_}
 use mathlib.Core.Path.{_≡_}
-use mathlib.Core.List.{List, [], map}
-use lib.ListN.{length, getD}
+use mathlib.Core.Bool.{Bool, false, cond}
+use mathlib.Core.List.{List}
+use lib.Dec.{eqb}
+use lib.ListN.{length, getD, set}
 use lib.Ieee.{Float, nan, Format}
 use Rattle.ieee.specs.Numbers.{zero as nought}
+use Rattle.multicubic.specs.declared.Answer.{Answer}
 use Rattle.multicubic.specs.declared.Outcome.{Outcome}
 use Rattle.multicubic.specs.declared.Outcome.the-variants.{Accepted, Refused}
 use Rattle.multicubic.specs.declared.Place.{Place}
 use Rattle.multicubic.specs.declared.PlaceAnswer.{PlaceAnswer}
-use Rattle.multicubic.specs.Place.{nowhere, Placed}
-use Rattle.grid.specs.Query.{GridAxis, noAxis, countsOf, Found, places, find, foundValue, foundComponents, foundOutcome, fourOf, fourPlaces}
+use Rattle.multicubic.specs.Answers.{answered}
+use Rattle.multicubic.specs.Place.{Placed}
+use Rattle.grid.specs.declared.Quantity.{Quantity}
+use Rattle.grid.specs.declared.Quantity.the-variants.{Value, Component}
+use Rattle.grid.specs.Query.{GridAxis, countsOf, Found, cases, find, valueOf, componentsOf, foundComponents, foundOutcome, fourOf, fourPlaces}
 use Rattle.grid.specs.Batch.{foundAt}
 
 -- ---- a query
--- the origins of four places
-abbrev pub originsAt : List Place → List ℕ
-originsAt four = map (λ (p : Place). p .origin) four
-
 -- what is told of query `number`, by the axes alone
 abbrev pub Located : ℕ → List GridAxis → (ℕ → Float) → PlaceAnswer → Type 0
 Located number gs query r = (r .outcome ≡ foundOutcome number (find 0 gs query)) × (r .places ≡ fourPlaces (foundOutcome number (find 0 gs query)) (find 0 gs query))
 
--- a query that has a place on every axis, and its four places
-abbrev pub PlacedOn : List GridAxis → (ℕ → Float) → List Place → Type 0
-PlacedOn gs query four = (ps : List Placed) × (find 0 gs query ≡ places ps) × (four ≡ fourPlaces Accepted (places ps))
+-- whether an axis enters by its derivative weights
+abbrev pub isComponent : Quantity → ℕ → Bool
+isComponent Value axis = false
+isComponent (Component d) axis = eqb axis d
 
--- the row of weights of every axis at the places
-abbrev pub Rows : List GridAxis → (ℕ → Float) → List Place → List (List Float) → Type 0
-Rows gs query four rows = (j : ℕ) → j < length gs → getD rows j [] ≡ getD gs j noAxis .weights (query j) (getD four j nowhere)
+-- an axis's row at a place: its derivative weights, or its weights
+abbrev pub rowAt : GridAxis → Float → Place → Bool → List Float
+rowAt g x p derivative = cond derivative (g .derivatives x p) (g .weights x p)
 
--- the value there, and component d; +0 where there is none
-abbrev pub valueOn : Format → List GridAxis → List Float → (ℕ → Float) → Float
-valueOn f gs vals query = foundValue f (countsOf gs) vals (find 0 gs query)
+-- a component is asked for one of the n axes
+abbrev pub Asked : ℕ → Quantity → Type 0
+Asked n Value = Unit
+Asked n (Component d) = d < n
 
-abbrev pub componentOn : Format → List GridAxis → List Float → (ℕ → Float) → ℕ → Float
-componentOn f gs vals query d = getD (foundComponents f (countsOf gs) vals (find 0 gs query)) d nought
+-- what is asked of a query, at its places
+abbrev pub quantityAt : Format → List ℕ → List Float → Quantity → List Placed → Float
+quantityAt f counts vals Value ps = valueOf f counts vals ps
+quantityAt f counts vals (Component d) ps = getD (componentsOf f counts vals ps) d nought
 
-abbrev pub gradientOn : Format → List GridAxis → List Float → (ℕ → Float) → List Float
-gradientOn f gs vals query = fourOf Accepted nought (foundComponents f (countsOf gs) vals (find 0 gs query))
+-- query i's answer to it
+abbrev pub answerTo : Format → List GridAxis → List Float → Quantity → ℕ → Found → Answer
+answerTo f gs vals quantity i found = answered (foundOutcome i found) (cases found (λ axis. nought) (quantityAt f (countsOf gs) vals quantity))
+
+-- the gradient's four numbers, by the axes alone
+abbrev pub gradientTo : Format → List GridAxis → List Float → Found → List Float
+gradientTo f gs vals found = fourOf (foundOutcome 0 found) nought (foundComponents f (countsOf gs) vals found)
 
 -- ---- a batch
+-- what is asked of query i, put at i
+abbrev pub putQuantity : Format → List ℕ → List Float → Quantity → ℕ → List Placed → List Float → List Float
+putQuantity f counts vals quantity i ps buffer = set buffer i (quantityAt f counts vals quantity ps)
+
 -- how many queries have their answer
 abbrev pub answeredBefore : Outcome → ℕ → ℕ
 answeredBefore (Refused number query axis) c = query
 answeredBefore Accepted c = c
-
--- the first `stop` queries have a place on every axis
-abbrev pub Placeable : (ℕ → Found) → ℕ → Type 0
-Placeable found stop = (i : ℕ) → i < stop → (ps : List Placed) × (found i ≡ places ps)
 
 -- component d of query i
 abbrev pub componentIn : Format → List GridAxis → List Float → ℕ → List Float → ℕ → ℕ → Float
@@ -57,7 +68,7 @@ componentIn f gs vals c queries d i = getD (foundComponents f (countsOf gs) vals
 
 -- the first `stop` entries of a column are as given, the others keep their contents
 abbrev pub Filled : (ℕ → Float) → ℕ → List Float → List Float → Type 0
-Filled given stop before after = (length after ≡ length before) × ((i : ℕ) → i < stop → getD after i nan ≡ given i) × ((i : ℕ) → stop ≤ i → getD after i nan ≡ getD before i nan)
+Filled given stop before after = (length after ≡ length before) × ((i : ℕ) → i < stop → getD after i nan ≡ given i) × ((i : ℕ) → stop ≤ i → i < length before → getD after i nan ≡ getD before i nan)
 
 -- so are those of n columns of c entries
 abbrev pub FilledColumns : (ℕ → ℕ → Float) → ℕ → ℕ → ℕ → List Float → List Float → Type 0

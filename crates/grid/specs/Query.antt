@@ -7,7 +7,7 @@ use Rattle.ieee.specs.Numbers.{zero}
 use Rattle.multicubic.specs.declared.Outcome.{Outcome}
 use Rattle.multicubic.specs.declared.Outcome.the-variants.{Accepted, Refused}
 use Rattle.multicubic.specs.declared.Answer.{Answer}
-use Rattle.multicubic.specs.declared.Answer.the-variants as Ans
+use Rattle.multicubic.specs.Answers.{answered}
 use Rattle.multicubic.specs.declared.Place.{Place}
 use Rattle.multicubic.specs.declared.Loc.{Loc}
 use Rattle.multicubic.specs.declared.Loc.the-variants.{Unplaceable}
@@ -109,10 +109,6 @@ abbrev pub outcomeOf : Grid → (ℕ → Float) → Outcome
 outcomeOf g query = g .checked then foundOutcome 0 (find 0 (g .axes) query)
 
 -- its value, or the refusal
-abbrev pub answered : Outcome → Float → Answer
-answered (Refused number query axis) value = Ans.Refused number query axis
-answered Accepted value = Ans.Value value
-
 abbrev pub valueAnswer : Format → Grid → (ℕ → Float) → Answer
 valueAnswer f g query = answered (outcomeOf g query) (foundValue f (gridCounts g) (g .vals) (find 0 (g .axes) query))
 

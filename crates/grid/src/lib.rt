@@ -1,23 +1,26 @@
-// What both kinds of grid share above their axes: the block's origin, check 7 and a batch's queries. What a grid answers is defined in specs/.
+// What both kinds of grid share above their axes: what is asked of a query, and check 7. What a grid answers is defined in specs/.
 ghost use mathlib.Core.Path.{_≡_};
-ghost use Prim.Native.Nat.{ℕ, _*_, _≤_, _<_};
-ghost use lib.ListN.{length};
-ghost use Rattle.grid.specs.Query.{at};
-ghost use Rattle.grid.specs.Batch.{queryAt, checkBatch};
-ghost use Rattle.grid.specs.Internal.{originsAt, answeredBefore};
+ghost use Prim.Native.Nat.{_*_, _/_, _≤_};
+ghost use Rattle.multicubic.specs.declared.Outcome.the-variants.{Accepted};
+ghost use Rattle.multicubic.specs.Grid.{_then_};
+ghost use Rattle.grid.specs.Batch.{checkBatch};
+ghost use Rattle.grid.specs.Internal.{isComponent};
 use multicubic::Outcome;
-use multicubic::Place;
 
-// The origins of four places.
-pub fn origins_of(places: [Place; 4]) -> [usize; 4]
-    ensures { λ r. ⌜ r ≡ originsAt places ⌝ }
+// What is asked of a query: its value, or component d of its gradient.
+pub enum Quantity {
+    Value,
+    Component(usize),
+}
+
+// Whether an axis enters by its derivative weights.
+pub fn is_component(quantity: Quantity, axis: usize) -> bool
+    ensures { λ r. ⌜ r ≡ isComponent quantity axis ⌝ }
 {
-    [
-        places[0].origin,
-        places[1].origin,
-        places[2].origin,
-        places[3].origin,
-    ]
+    match quantity {
+        Quantity::Value => false,
+        Quantity::Component(d) => axis == d,
+    }
 }
 
 fn refused_batch() -> Outcome
@@ -31,7 +34,7 @@ fn refused_batch() -> Outcome
 }
 
 // Check 7: the count of queries, the lengths of both buffers.
-pub fn check_batch(
+fn check_batch(
     axis_count: usize,
     count: usize,
     queries: usize,
@@ -54,32 +57,35 @@ pub fn check_batch(
     Outcome::Accepted
 }
 
-// Query i of a batch, from its joined columns.
-pub fn query_at(axis_count: usize, queries: &[f64], count: usize, i: usize) -> [f64; 4]
-    requires { ⌜ («axis_count» ≤ 4) × (i < count) × (length (now queries) ≡ «axis_count» * count) ⌝ }
-    ensures { λ r. ⌜ ((axis : ℕ) → axis < «axis_count» → at r axis ≡ queryAt count (now (queries .entry)) i axis) ⌝ }
+// The grid's checks, then check 7 for values.
+pub fn check_values(checked: Outcome, axis_count: usize, queries: usize, buffer: usize) -> Outcome
+    requires { ⌜ (checked ≡ Accepted → «axis_count» ≤ 4) ⌝ }
+    ensures { λ r. ⌜ r ≡ (checked then checkBatch «axis_count» buffer queries buffer buffer) ⌝ }
 {
-    let mut x = [0.0; 4];
-    let mut k = i;
-    let mut axis: usize = 0;
-    while axis < axis_count {
-        x[axis] = queries[k];
-        k += count;
-        axis += 1;
+    match checked {
+        Outcome::Refused { .. } => checked,
+        Outcome::Accepted => check_batch(axis_count, buffer, queries, buffer, buffer),
     }
-    x
 }
 
-// How many queries have their answer.
-pub fn answered_before(outcome: Outcome, count: usize) -> usize
-    ensures { λ r. ⌜ r ≡ answeredBefore outcome count ⌝ }
+// The same for gradients: as many queries as the axis count divides the buffer into.
+pub fn check_gradients(
+    checked: Outcome,
+    axis_count: usize,
+    queries: usize,
+    buffer: usize,
+) -> Outcome
+    requires { ⌜ (checked ≡ Accepted → (1 ≤ «axis_count») × («axis_count» ≤ 4)) ⌝ }
+    ensures { λ r. ⌜
+        r ≡ (checked then checkBatch «axis_count» (buffer / «axis_count») queries («axis_count» * (buffer / «axis_count»)) buffer)
+        ⌝ }
 {
-    match outcome {
-        Outcome::Refused {
-            number,
-            query,
-            axis,
-        } => query,
-        Outcome::Accepted => count,
+    match checked {
+        Outcome::Refused { .. } => checked,
+        Outcome::Accepted => {
+            let count = buffer / axis_count;
+            let entries = axis_count * count;
+            check_batch(axis_count, count, queries, entries, buffer)
+        }
     }
 }

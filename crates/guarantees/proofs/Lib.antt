@@ -1,3 +1,5 @@
--- The marked rows, and the statements of the calls.
-pub mod MarkedRows
-pub mod Calls
+-- The statements hold of what the definitions give; a call that answers as they give has what is owed of it.
+pub mod Typing
+pub mod Nodes
+pub mod Blocks
+pub mod Owed

@@ -1,3 +1,2 @@
--- Statements of paper 01 about both kinds of grid.
+-- What is guaranteed of the calls.
 pub mod Statements
-pub mod MarkedRows

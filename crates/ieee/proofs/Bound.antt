@@ -1,4 +1,4 @@
--- Bounds by powers of two, through the rounding operations: enough to know that a result is finite, and where it is above zero. Assumes nothing.
+-- Bounds by powers of two, through the rounding operations: enough to know that a result is finite, and where it is above zero.
 -- `Upto b x`: x is finite, of size at most 2 ^ b. `Between l b x`: x is above zero, from 2 ^ -l to 2 ^ b.
 use mathlib.Core.Path.{_≡_, refl, sym, ap, _∙_, subst}
 use mathlib.Core.Logic.{_⊎_, inl, inr}

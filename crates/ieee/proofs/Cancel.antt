@@ -1,4 +1,4 @@
--- x - x is +0, y - x is -(x - y) up to the sign of a zero, and x / x is one. A zero's sign does not reach a difference, but for a zero's. Assumes nothing.
+-- x - x is +0, y - x is -(x - y) up to the sign of a zero, and x / x is one. A zero's sign does not reach a difference, but for a zero's.
 use mathlib.Core.Path.{_≡_, refl, sym, ap, _∙_, subst}
 use mathlib.Core.Logic.{inl, inr}
 use Prim.Native.Nat.{ℕ, zero, suc, _+_, _-_, _*_, _/_, _%_, _^_, _≤_, _<_, compare}

@@ -1,4 +1,4 @@
--- Where y - x, rounded, is above zero (and finite), x and y are finite and x < y. And what two comparisons with powers of two say of a gap. Assumes nothing.
+-- Where y - x, rounded, is above zero (and finite), x and y are finite and x < y. And what two comparisons with powers of two say of a gap.
 use mathlib.Core.Path.{_≡_, refl, sym, ap, subst}
 use Prim.Native.Nat.{ℕ, zero, suc, _+_, _-_, _*_, _^_, _≤_, _<_}
 use native.Mathlib.Nat.{le-trans, le-of-eq, mul-one, one-mul, mul-pos, zero-lt-suc}

@@ -1,4 +1,4 @@
--- Whole multiples of a power of two: `Is p z x` says that x is z * 2 ^ p, a zero of either sign counting as 0. While the multiples stay below 2 ^ 24 and the powers within 2 ^ ±20, every operation on them is exact in both formats. Assumes nothing.
+-- Whole multiples of a power of two: `Is p z x` says that x is z * 2 ^ p, a zero of either sign counting as 0. While the multiples stay below 2 ^ 24 and the powers within 2 ^ ±20, every operation on them is exact in both formats.
 use mathlib.Core.Path.{_≡_, refl, sym, ap, _∙_, subst}
 use mathlib.Core.Logic.{inl, inr}
 use Prim.Native.Nat.{ℕ, zero, suc, _+_, _-_, _*_, _/_, _%_, _^_, _≤_, _<_}

@@ -1,4 +1,4 @@
--- The order of floats: `<=` and `<` are transitive, alone and together, infinities included. A NaN compares with nothing, and else `a <= b` is not `b < a`. Assumes nothing.
+-- The order of floats: `<=` and `<` are transitive, alone and together, infinities included. A NaN compares with nothing, and else `a <= b` is not `b < a`.
 use mathlib.Core.Path.{_≡_, _∙_, sym, refl, ap, subst}
 use mathlib.Core.Bool.{Bool, true, false, not, _&&_, _||_, Bool·beq, and-comm, or-true}
 use mathlib.Core.Logic.{_⊎_, inl, inr, ⊎-elim}

@@ -1,4 +1,4 @@
--- The order of finite values as an order of natural numbers: `rank` counts the format's smallest values from below the lowest. `lt` is the order of ranks, and equal numbers have equal ranks. Assumes nothing.
+-- The order of finite values as an order of natural numbers: `rank` counts the format's smallest values from below the lowest. `lt` is the order of ranks, and equal numbers have equal ranks.
 use mathlib.Core.Path.{_≡_, refl, sym, ap, _∙_, subst}
 use mathlib.Core.Logic.{inl, inr}
 use Prim.Native.Nat.{ℕ, zero, suc, _+_, _-_, _*_, _/_, _^_, _≤_, _<_}

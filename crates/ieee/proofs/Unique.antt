@@ -1,4 +1,4 @@
--- A value that fits is written in one way: two that fit and have the same value are equal. So a fraction that is a fitting value's is rounded to it. Assumes nothing.
+-- A value that fits is written in one way: two that fit and have the same value are equal. So a fraction that is a fitting value's is rounded to it.
 use mathlib.Core.Path.{_≡_, refl, sym, ap, _∙_, subst}
 use Prim.Native.Nat.{ℕ, zero, suc, _+_, _-_, _*_, _%_, _^_, _≤_, _<_}
 use native.Mathlib.Nat.{lt-of-lt-of-le, lt-irrefl, zero-lt-suc, le-of-suc-le-suc, lt-of-not-le, zero-mul, mul-one, one-mul, mul-comm, mul-assoc, mul-left-comm, mul-right-comm, mul-pos, mul-lt-mul-of-pos-right, lt-of-mul-lt-mul-right, pow-suc, pow-succ', eq-of-mul-eq-mul-right}

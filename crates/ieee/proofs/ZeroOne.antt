@@ -1,4 +1,4 @@
--- Arithmetic with a zero of either sign and with one: what comes back unrounded. The format is a parameter. Assumes nothing.
+-- Arithmetic with a zero of either sign and with one: what comes back unrounded. The format is a parameter.
 use mathlib.Core.Path.{_≡_, refl, sym, ap, _∙_}
 use Prim.Native.Nat.{ℕ, zero, suc, _+_, _-_, _*_, _<_}
 use native.Mathlib.Nat.{add-zero, zero-add, sub-zero, zero-lt-suc, lt-irrefl, zero-mul, mul-zero, mul-one, one-mul, mul-pos, not-suc-le-zero, sub-self}

@@ -1,4 +1,4 @@
--- The basis at one and at a zero of either sign, by computation in each format. Assumes nothing.
+-- The basis at one and at a zero of either sign, by computation in each format.
 use mathlib.Core.Path.{_≡_, refl}
 use mathlib.Core.Bool.{Bool, true, false}
 use mathlib.Core.List.{[], _∷_}

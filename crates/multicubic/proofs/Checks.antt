@@ -1,4 +1,4 @@
--- Checks 1 to 4 by the tests that decide them. Assumes nothing.
+-- Checks 1 to 4 by the tests that decide them.
 use mathlib.Core.Path.{_≡_, refl, sym, ap, _∙_}
 use mathlib.Core.Bool.{Bool, true, false, not, _||_}
 use mathlib.Core.List.{List}

@@ -1,4 +1,4 @@
--- Checks 1 to 4 on counts that are easily misread, by computation. Assumes nothing.
+-- Checks 1 to 4 on counts that are easily misread, by computation.
 use mathlib.Core.Path.{_≡_, refl}
 use mathlib.Core.List.{[], _∷_}
 use Rattle.multicubic.specs.declared.Outcome.the-variants.{Accepted, Refused}

@@ -1,4 +1,4 @@
--- What a grid that checks 1 to 4 accept has passed. Assumes nothing.
+-- What a grid that checks 1 to 4 accept has passed.
 use mathlib.Core.Path.{_≡_, refl}
 use mathlib.Core.Bool.{Bool, true, false, not, cond}
 use mathlib.Core.List.{List, [], _∷_}

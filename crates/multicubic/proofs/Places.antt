@@ -1,4 +1,4 @@
--- The place where L is k less 2: k is the number of entries below a query, or a floor plus 1. Assumes nothing.
+-- The place where L is k less 2: k is the number of entries below a query, or a floor plus 1.
 use mathlib.Core.Path.{_≡_}
 use Prim.Native.Nat.{ℕ, _-_, _≤_, _<_, min}
 use native.Mathlib.Omega.{arith}

@@ -1,4 +1,4 @@
--- One turn of each loop over the counts, by what is left of them. Assumes nothing.
+-- One turn of each loop over the counts, by what is left of them.
 use mathlib.Core.Path.{_≡_, refl, sym}
 use mathlib.Core.Bool.{Bool, true, false, _||_}
 use mathlib.Core.List.{List, [], _∷_}
@@ -8,7 +8,7 @@ use native.Mathlib.Numerals.{add-one}
 use native.Mathlib.Omega.{arith}
 use lib.Dec.{ltb, lit≤}
 use lib.ListN.{length, getD, take}
-use lib.Seq.{slice, slice-cons}
+use lib.Seq.{slice, slice-cons, slice-empty}
 use borrow.Author.Tests.{ltb-false, lt-ltb, le-ltb}
 use Rattle.multicubic.specs.declared.Outcome.the-variants.{Refused}
 use Rattle.multicubic.specs.Grid.{product, sum, anyOver, lowest}
@@ -16,6 +16,12 @@ use Rattle.multicubic.specs.Grid.{product, sum, anyOver, lowest}
 pub or-false : (a b : Bool) → (a || b) ≡ false → (a ≡ false) × (b ≡ false)
 or-false true b e = (e, absurd (let z : _≡_ {A = ℕ} 0 1 = cc in omega arith))
 or-false false b e = (refl, e)
+
+-- nothing is left at the end
+pub slice-end : (xs : List ℕ) (n i : ℕ) → i ≤ n → n ≤ i → slice i n xs ≡ []
+slice-end xs n i h k =
+    let e : i ≡ n = omega arith in
+    rw (e, slice-empty)
 
 module _ (xs : List ℕ) (n i : ℕ) (h : i < n) (k : n ≤ length xs) where
   pub over-here : 4096 < getD xs i 0 → anyOver (slice i n xs) ≡ true
@@ -57,15 +63,12 @@ small p (suc (suc (suc zero))) h k = le-trans k (lit≤ tt)
 small p (suc (suc (suc (suc zero)))) h k = le-trans k (lit≤ tt)
 small p (suc (suc (suc (suc (suc i))))) h k = absurd (omega arith)
 
-pub each-within : (xs : List ℕ) (n i : ℕ) → i < n → n ≤ length xs → anyOver (take n xs) ≡ false → getD xs i 0 ≤ 4096
-each-within [] n i h k e = absurd (omega arith)
-each-within (x ∷ xs) zero i h k e = absurd (omega arith)
-each-within (x ∷ xs) (suc n) zero h k e = ltb-false 4096 x (or-false _ _ e .0)
-each-within (x ∷ xs) (suc n) (suc i) h k e = each-within xs n i (omega arith) (omega arith) (or-false (ltb 4096 x) (anyOver (take n xs)) e .1)
-
 -- no count in use is over
 pub count-within : (n : ℕ) (counts : List ℕ) (j : ℕ) → j < n → anyOver (take n counts) ≡ false → getD counts j 0 ≤ 4096
 count-within zero counts j h e = absurd (omega arith)
 count-within (suc n) [] j h e = omega arith
 count-within (suc n) (c ∷ counts) zero h e = ltb-false 4096 c (or-false (ltb 4096 c) (anyOver (take n counts)) e .0)
 count-within (suc n) (c ∷ counts) (suc j) h e = count-within n counts j (omega arith) (or-false (ltb 4096 c) (anyOver (take n counts)) e .1)
+
+pub each-within : (xs : List ℕ) (n i : ℕ) → i < n → n ≤ length xs → anyOver (take n xs) ≡ false → getD xs i 0 ≤ 4096
+each-within xs n i h k e = count-within n xs i h e

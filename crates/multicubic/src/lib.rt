@@ -7,6 +7,8 @@ ghost use lib.IntN.{pos, _-ℤ_};
 ghost use lib.ListN.{take};
 ghost use Rattle.multicubic.specs.Grid.{product, sum, anyOver, lowest, misjoined, sizeChecks};
 ghost use Rattle.multicubic.specs.Place.{fourNowhere, straightOf, placeOf};
+ghost use Rattle.multicubic.specs.Answers.{answerOutcome, answered};
+ghost use Rattle.multicubic.specs.Same.{asAnswer};
 
 // Where a query lies on one axis.
 pub enum Saturation {
@@ -77,6 +79,53 @@ pub struct GradientAnswer {
 pub enum AxesLength {
     Regular,
     Joined(usize),
+}
+
+// Refusal 8.
+pub fn refused_query(query: usize, axis: usize) -> Outcome
+    ensures { λ r. ⌜ r ≡ Outcome.Refused 8 query axis ⌝ }
+{
+    Outcome::Refused {
+        number: 8,
+        query,
+        axis,
+    }
+}
+
+// The outcome as a value's answer: the refusal, or the value where there is none.
+pub fn answered(outcome: Outcome, value: f64) -> Answer
+    ensures { λ r. ⌜ asAnswer r ≡ answered outcome value ⌝ }
+{
+    match outcome {
+        Outcome::Refused {
+            number,
+            query,
+            axis,
+        } => Answer::Refused {
+            number,
+            query,
+            axis,
+        },
+        Outcome::Accepted => Answer::Value(value),
+    }
+}
+
+// The outcome of a value's answer.
+pub fn outcome_of(answer: Answer) -> Outcome
+    ensures { λ r. ⌜ r ≡ answerOutcome (asAnswer answer) ⌝ }
+{
+    match answer {
+        Answer::Refused {
+            number,
+            query,
+            axis,
+        } => Outcome::Refused {
+            number,
+            query,
+            axis,
+        },
+        Answer::Value(value) => Outcome::Accepted,
+    }
 }
 
 // The place on an axis of n entries where L is k less 2.

@@ -1,4 +1,4 @@
--- The premises can be met on two axes: 0, 1, 2, 4, 7 and 1, 2, 4, 7. The query -0, 4 is at node 0, 2. Assumes nothing.
+-- The premises can be met on two axes: 0, 1, 2, 4, 7 and 1, 2, 4, 7. The query -0, 4 is at node 0, 2.
 use mathlib.Core.Path.{_≡_, refl}
 use mathlib.Core.Bool.{Bool, true, false, _&&_}
 use mathlib.Core.List.{List, [], _∷_}
@@ -19,7 +19,7 @@ use Rattle.rectilinear_axis.specs.Nodes.{Premises}
 use Rattle.grid.specs.Query.{valueAnswer}
 use Rattle.grid.specs.Nodes.{stored}
 use Rattle.grid.proofs.Decide.{each, all-fit}
-use Rattle.rectilinear.specs.Grid.{gridOf, AllPremises}
+use Rattle.rectilinear_query.specs.Grid.{gridOf, AllPremises}
 use Rattle.rectilinear.proofs.Guarantees.{node}
 
 abbrev counts : List ℕ

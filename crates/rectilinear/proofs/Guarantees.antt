@@ -1,5 +1,4 @@
 -- Demand 3 on a rectilinear grid, of the definitions. The laws of `grid` on batches and blocks apply by `node-case`, `alike` and `axes-counted`.
--- Assumes nothing.
 use mathlib.Core.Path.{_≡_, refl}
 use mathlib.Core.List.{List}
 use Prim.Native.Nat.{ℕ, _≤_}
@@ -15,10 +14,10 @@ use Rattle.grid.specs.Query.{valueAnswer}
 use Rattle.grid.specs.Nodes.{AtIndex, stored, FiniteValues, Fits}
 use Rattle.grid.proofs.AtNodes.{NodeCase, node-answer}
 use Rattle.grid.proofs.InBatches.{Alike}
-use Rattle.rectilinear.specs.Grid.{gridOf, AllPremises}
-use Rattle.rectilinear.proofs.Sizes.{sized}
+use Rattle.rectilinear_query.specs.Grid.{gridOf, AllPremises}
+use Rattle.rectilinear_query.proofs.Sizes.{sized}
 use Rattle.rectilinear.proofs.Laws.{node-laws}
-use Rattle.rectilinear.proofs.Locating.{axes-long}
+use Rattle.rectilinear_query.proofs.Locating.{axes-long}
 
 module _ (f : Format) (n : ℕ) (counts : List ℕ) (joined : List Float) (entries : Fits f joined) (premises : AllPremises f (axesOf (take n counts) joined)) (is : List ℕ) (query : ℕ → Float) (typed : (a : ℕ) → T (fits f (query a))) where
   pub node-case : (vals : List Float) (mode : EdgeMode) → gridOf f n counts joined vals mode .checked ≡ Accepted → FiniteValues vals → Fits f vals → AtIndex 0 (gridOf f n counts joined vals mode .axes) is query → NodeCase f (gridOf f n counts joined vals mode) is query

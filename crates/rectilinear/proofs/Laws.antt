@@ -1,4 +1,4 @@
--- Demand 3 of each axis of a rectilinear grid that is accepted and within the premises. Assumes nothing.
+-- Demand 3 of each axis of a rectilinear grid that is accepted and within the premises.
 use mathlib.Core.Path.{_≡_}
 use mathlib.Core.Bool.{Bool}
 use mathlib.Core.List.{List, [], _∷_}
@@ -17,8 +17,8 @@ use Rattle.rectilinear_axis.proofs.AtNodes.{at-node}
 use Rattle.grid.specs.Nodes.{Fits}
 use Rattle.grid.proofs.Premises.{NodeLaws, Long}
 use Rattle.grid.proofs.Sizes.{all-long}
-use Rattle.rectilinear.specs.Grid.{gridAxes, gridOf, AllPremises}
-use Rattle.rectilinear.proofs.Sizes.{part-length, rest-length, passed, joined-length}
+use Rattle.rectilinear_query.specs.Grid.{gridAxes, gridOf, AllPremises}
+use Rattle.rectilinear_query.proofs.Sizes.{part-length, rest-length, passed, joined-length}
 
 -- a part's entries are entries of the whole
 module _ (f : Format) (c : ℕ) (joined : List Float) (fit : Fits f joined) where

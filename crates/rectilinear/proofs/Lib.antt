@@ -1,6 +1,4 @@
--- Laws of a rectilinear grid.
-pub mod Sizes
+-- Demand 3 on a rectilinear grid.
 pub mod Laws
 pub mod Guarantees
 pub mod Examples
-pub mod Locating

@@ -1,5 +1,5 @@
 -- 01, demand 3, on one rectilinear axis within the premises: at node i the query is placed, with L = i - 2, and its row of weights is
--- one at the node's place in the block. Assumes nothing.
+-- one at the node's place in the block.
 use mathlib.Core.Path.{_≡_, refl, sym, ap, _∙_, subst}
 use mathlib.Core.Logic.{inl, inr}
 use mathlib.Core.Bool.{Bool}

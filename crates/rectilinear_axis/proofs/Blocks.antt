@@ -1,4 +1,4 @@
--- A query at a node of a block g0, g1, g2, g3: its row of weights is one at the node's place. Assumes nothing.
+-- A query at a node of a block g0, g1, g2, g3: its row of weights is one at the node's place.
 use mathlib.Core.Bool.{Bool, true, false}
 use mathlib.Core.List.{[], _∷_}
 use lib.Dec.{T}
@@ -10,9 +10,10 @@ use Rattle.ieee.proofs.Cancel.{neg-zero, neg-same, sub-self-nil, sub-swap, sub-
 use Rattle.ieee.proofs.Bound.{Between}
 use Rattle.multicubic.specs.declared.Saturation.the-variants.{None, InsideLow, OutsideLow, InsideHigh}
 use Rattle.multicubic.specs.Nodes.{OneAt}
-use Rattle.rectilinear_axis.specs.Weights.{weightsOf, lowOf}
-use Rattle.rectilinear_axis.proofs.Slopes.{one-between, ratio, slopes}
-use Rattle.rectilinear_axis.proofs.Rows.{at-one, at-zero, interior-row, low-row-one, low-row-zero, high-row, line-row}
+use Rattle.rectilinear_weights.specs.Weights.{lowOf}
+use Rattle.rectilinear_axis.specs.Weights.{weightsOf}
+use Rattle.rectilinear_weights.proofs.Slopes.{one-between, ratio, slopes}
+use Rattle.rectilinear_weights.proofs.Rows.{at-one, at-zero, interior-row, low-row-one, low-row-zero, high-row, line-row}
 
 -- finite, and held by the format
 abbrev pub Held : Format → Float → Type 0

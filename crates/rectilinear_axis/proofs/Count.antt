@@ -1,4 +1,4 @@
--- On an axis whose gaps are within the premises, i entries are below a query that is entry i as a number. Assumes nothing.
+-- On an axis whose gaps are within the premises, i entries are below a query that is entry i as a number.
 use mathlib.Core.Path.{_≡_, sym}
 use mathlib.Core.Bool.{true, false}
 use mathlib.Core.List.{List}

@@ -1,4 +1,4 @@
--- The premises can be met: the axis 0, 1, 2, 4, 7 in both formats, and the theorem at its node 0 for the query -0. Assumes nothing.
+-- The premises can be met: the axis 0, 1, 2, 4, 7 in both formats, and the theorem at its node 0 for the query -0.
 use mathlib.Core.Bool.{Bool, true, false}
 use mathlib.Core.List.{List, [], _∷_}
 use Prim.Native.Nat.{ℕ, zero, suc, _<_}
@@ -9,7 +9,7 @@ use lib.ListN.{length, getD}
 use lib.Ieee.{Float, nan, fin, Format, binary32, binary64, sub, le, eq, fits}
 use Rattle.multicubic.specs.Nodes.{AtNode}
 use Rattle.rectilinear_axis.specs.Nodes.{Premises, outcomeOf}
-use Rattle.rectilinear_axis.proofs.Rows.{each}
+use Rattle.rectilinear_weights.proofs.Rows.{each}
 use Rattle.rectilinear_axis.proofs.AtNodes.{at-node}
 
 abbrev pub axis : List Float

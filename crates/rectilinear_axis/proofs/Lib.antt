@@ -1,8 +1,6 @@
 -- Laws of the definitions, beyond the functions' own proofs.
 pub mod Search
 pub mod Cell
-pub mod Slopes
-pub mod Rows
 pub mod Blocks
 pub mod Count
 pub mod AtNodes

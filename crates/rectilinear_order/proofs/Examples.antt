@@ -1,4 +1,4 @@
--- Checks 5 and 6 on axes that are easily misread, by computation. Assumes nothing.
+-- Checks 5 and 6 on axes that are easily misread, by computation.
 use mathlib.Core.Path.{_≡_, refl}
 use mathlib.Core.Bool.{false}
 use mathlib.Core.List.{[], _∷_}

@@ -1,4 +1,4 @@
--- Disorder of an axis is that some entry is not at or above the one before it. Assumes nothing.
+-- Disorder of an axis is that some entry is not at or above the one before it.
 use mathlib.Core.Path.{_≡_, refl}
 use mathlib.Core.Bool.{Bool, true, false, not, _||_, or-comm}
 use mathlib.Core.List.{List, [], _∷_}

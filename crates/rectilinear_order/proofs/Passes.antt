@@ -1,4 +1,4 @@
--- One turn of a pass over joined axes, for any fault and its number: what is left of the axes answers for all of them. Assumes nothing.
+-- One turn of a pass over joined axes, for any fault and its number: what is left of the axes answers for all of them.
 use mathlib.Core.Path.{_≡_, refl, sym, ap, _∙_}
 use mathlib.Core.Bool.{Bool, true, false, cond}
 use mathlib.Core.List.{List, _∷_}

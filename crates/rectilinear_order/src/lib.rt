@@ -4,6 +4,7 @@ ghost use Prim.Native.Nat.{ℕ, _≤_, _<_};
 ghost use lib.ListN.{length, getD, take};
 ghost use Rattle.multicubic.specs.Grid.{sum, lowest};
 ghost use Rattle.rectilinear_order.specs.Grid.{axesOf, notRising, disorder, orderChecks};
+ghost use Rattle.rectilinear_order.specs.Faults.{faultOf};
 use multicubic::Outcome;
 
 // Check 5 on one axis: entry 1 is not above entry 0.
@@ -32,44 +33,39 @@ fn disordered(grid: &[f64]) -> bool
     false
 }
 
-fn first_not_rising(axis_count: usize, counts: [usize; 4], axes: &[f64]) -> Outcome
-    requires { ⌜ «axis_count» ≤ 4 ⌝ }
-    requires { ⌜ sum (take «axis_count» counts) ≡ length (now axes) ⌝ }
-    requires { ⌜ ((i : ℕ) → i < «axis_count» → 4 ≤ getD counts i 0) ⌝ }
-    ensures { λ r. ⌜ r ≡ lowest 5 notRising 0 (axesOf (take «axis_count» counts) (now (axes .entry))) ⌝ }
+// Check 6 where it is asked for, else check 5.
+fn faulty(grid: &[f64], order: bool) -> bool
+    requires { ⌜ 4 ≤ length (now grid) ⌝ }
+    ensures { λ r. ⌜ r ≡ faultOf order (now (grid .entry)) ⌝ }
 {
-    let mut at: usize = 0;
-    let mut i: usize = 0;
-    while i < axis_count {
-        let end = at + counts[i];
-        let grid = &axes[at..end];
-        if not_rising(grid) {
-            return Outcome::Refused {
-                number: 5,
-                query: 0,
-                axis: i,
-            };
-        }
-        at = end;
-        i += 1;
+    if order {
+        disordered(grid)
+    } else {
+        not_rising(grid)
     }
-    Outcome::Accepted
 }
 
-fn first_disordered(axis_count: usize, counts: [usize; 4], axes: &[f64]) -> Outcome
+// The refusal of the lowest axis that the check finds at fault.
+fn first_faulty(
+    axis_count: usize,
+    counts: [usize; 4],
+    axes: &[f64],
+    order: bool,
+    number: u8,
+) -> Outcome
     requires { ⌜ «axis_count» ≤ 4 ⌝ }
     requires { ⌜ sum (take «axis_count» counts) ≡ length (now axes) ⌝ }
     requires { ⌜ ((i : ℕ) → i < «axis_count» → 4 ≤ getD counts i 0) ⌝ }
-    ensures { λ r. ⌜ r ≡ lowest 6 disorder 0 (axesOf (take «axis_count» counts) (now (axes .entry))) ⌝ }
+    ensures { λ r. ⌜ r ≡ lowest number (faultOf order) 0 (axesOf (take «axis_count» counts) (now (axes .entry))) ⌝ }
 {
     let mut at: usize = 0;
     let mut i: usize = 0;
     while i < axis_count {
         let end = at + counts[i];
         let grid = &axes[at..end];
-        if disordered(grid) {
+        if faulty(grid, order) {
             return Outcome::Refused {
-                number: 6,
+                number,
                 query: 0,
                 axis: i,
             };
@@ -87,7 +83,7 @@ pub fn check_order(axis_count: usize, counts: [usize; 4], axes: &[f64]) -> Outco
     requires { ⌜ ((i : ℕ) → i < «axis_count» → 4 ≤ getD counts i 0) ⌝ }
     ensures { λ r. ⌜ r ≡ orderChecks (axesOf (take «axis_count» counts) (now (axes .entry))) ⌝ }
 {
-    let rising = first_not_rising(axis_count, counts, axes);
+    let rising = first_faulty(axis_count, counts, axes, false, 5);
     match rising {
         Outcome::Refused {
             number,
@@ -98,6 +94,6 @@ pub fn check_order(axis_count: usize, counts: [usize; 4], axes: &[f64]) -> Outco
             query,
             axis,
         },
-        Outcome::Accepted => first_disordered(axis_count, counts, axes),
+        Outcome::Accepted => first_faulty(axis_count, counts, axes, true, 6),
     }
 }

@@ -1,5 +1,5 @@
 -- Demand 3 of the reduction: two tables that agree in the block give the same result, also with a replaced row; rows that are one at a
--- node's place give the number stored there. The axis count is a parameter. Assumes nothing.
+-- node's place give the number stored there. The axis count is a parameter.
 use mathlib.Core.Path.{_≡_, refl, sym, ap, _∙_, subst}
 use mathlib.Core.List.{List, [], _∷_}
 use mathlib.Core.Logic.{inl}

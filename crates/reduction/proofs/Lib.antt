@@ -1,4 +1,4 @@
 -- Laws of the reduction.
-pub mod Offsets
+pub mod Spacing
 pub mod Reduction
 pub mod Blocks

@@ -1,5 +1,5 @@
 -- Laws of the reduction, the axis count a parameter: only the block is read; the last axis is summed at the end; reading from a base
--- index and strides. Assumes nothing.
+-- index and strides.
 use mathlib.Core.Path.{_≡_, refl, sym, ap, _∙_, subst}
 use mathlib.Core.List.{List, [], _∷_, _++_}
 use Prim.Native.Nat.{ℕ, zero, suc, _+_, _*_, _≤_, _<_}
@@ -38,7 +38,7 @@ reduce-last f [] w v = refl
 reduce-last f (x ∷ ws) w v = reduce-last f ws w (step f x v)
 
 -- ---- from a base index
-offset-last : (js : List ℕ) (j : ℕ) (ss : List ℕ) → length js < length ss → offset (js ++ (j ∷ [])) ss ≡ offset js ss + j * getD ss (length js) 0
+pub offset-last : (js : List ℕ) (j : ℕ) (ss : List ℕ) → length js < length ss → offset (js ++ (j ∷ [])) ss ≡ offset js ss + j * getD ss (length js) 0
 offset-last [] j [] h = absurd (omega arith)
 offset-last [] j (s ∷ ss) h = omega arith
 offset-last (i ∷ is) j [] h = absurd (omega arith)
@@ -101,23 +101,27 @@ reduce-block f vals ws ss os e d =
     reduce-agree f ws (block vals ss os) (from vals ss (offset os ss)) (λ js i. ap (λ (o : ℕ). getD vals o nan) (offset-shifted os js ss (in-length (length ws) js i ∙ sym e) d))
 
 -- ---- over the first n of four axes
-offset-take : (js ss : List ℕ) (n : ℕ) → length js ≤ n → offset js (take n ss) ≡ offset js ss
+pub offset-take : (js ss : List ℕ) (n : ℕ) → length js ≤ n → offset js (take n ss) ≡ offset js ss
 offset-take [] ss n h = refl
 offset-take (j ∷ js) [] zero h = refl
 offset-take (j ∷ js) [] (suc n) h = refl
 offset-take (j ∷ js) (s ∷ ss) zero h = absurd (omega arith)
 offset-take (j ∷ js) (s ∷ ss) (suc n) h = ap (λ (z : ℕ). j * s + z) (offset-take js ss n (omega arith))
 
-pub from-base : (f : Format) (vals : List Float) (ws : List (List Float)) (ss os : List ℕ) (n base : ℕ) → n ≤ length ws → n ≤ length ss → n ≤ length os → base ≡ offset (take n os) (take n ss)
-    → reduceOf f (take n ws) (from vals ss base) ≡ reduceOf f (take n ws) (block vals (take n ss) (take n os))
-from-base f vals ws ss os n base kw ks ko e =
-    reduce-agree f (take n ws) (from vals ss base) (from vals (take n ss) (offset (take n os) (take n ss)))
+pub from-block : (f : Format) (vals : List Float) (ws : List (List Float)) (ss os : List ℕ) (n base : ℕ) → length ws ≡ n → length os ≡ n → n ≤ length ss → base ≡ offset os ss
+    → reduceOf f ws (from vals ss base) ≡ reduceOf f ws (block vals (take n ss) os)
+from-block f vals ws ss os n base lw lo ls e =
+    reduce-agree f ws (from vals ss base) (from vals (take n ss) (offset os (take n ss)))
     (λ js i.
-    let l : length js ≡ n = in-length (length (take n ws)) js i ∙ length-take-le n ws kw in
-    ap (λ (o : ℕ). getD vals o nan) (ap (λ (z : ℕ). z + offset js ss) e ∙ ap (λ (z : ℕ). offset (take n os) (take n ss) + z) (sym (offset-take js ss n (omega arith)))))
-    ∙ sym (reduce-block f vals (take n ws) (take n ss) (take n os) (length-take-le n os ko ∙ sym (length-take-le n ws kw)) (length-take-le n os ko ∙ sym (length-take-le n ss ks)))
+    let l : length js ≡ n = in-length (length ws) js i ∙ lw in
+    ap (λ (o : ℕ). getD vals o nan) (ap (λ (z : ℕ). z + offset js ss) (e ∙ sym (offset-take os ss n (omega arith))) ∙ ap (λ (z : ℕ). offset os (take n ss) + z) (sym (offset-take js ss n (omega arith)))))
+    ∙ sym (reduce-block f vals ws (take n ss) os (lo ∙ sym lw) (lo ∙ sym (length-take-le n ss ls)))
 
-pub reach-last : (ss : List ℕ) (k : ℕ) → k < length ss → reach (take (suc k) ss) ≡ reach (take k ss) + 3 * getD ss k 0
-reach-last [] k h = absurd (omega arith)
-reach-last (s ∷ ss) zero h = omega arith
-reach-last (s ∷ ss) (suc k) h = let e = reach-last ss k (omega arith) in omega (arith, e)
+-- how far the reductions over one to four axes reach
+pub reaches : (ss : List ℕ) → length ss ≡ 4 → (reach (take 1 ss) ≡ 3 * getD ss 0 0) × (reach (take 2 ss) ≡ 3 * getD ss 0 0 + 3 * getD ss 1 0) × (reach (take 3 ss) ≡ 3 * getD ss 0 0 + 3 * getD ss 1 0 + 3 * getD ss 2 0) × (reach (take 4 ss) ≡ 3 * getD ss 0 0 + 3 * getD ss 1 0 + 3 * getD ss 2 0 + 3 * getD ss 3 0)
+reaches [] h = absurd (omega arith)
+reaches (a ∷ []) h = absurd (omega arith)
+reaches (a ∷ b ∷ []) h = absurd (omega arith)
+reaches (a ∷ b ∷ c ∷ []) h = absurd (omega arith)
+reaches (a ∷ b ∷ c ∷ d ∷ []) h = (omega arith, omega arith, omega arith, omega arith)
+reaches (a ∷ b ∷ c ∷ d ∷ e ∷ rest) h = absurd (omega arith)

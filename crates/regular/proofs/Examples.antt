@@ -1,5 +1,4 @@
--- The premises can be met on two axes: 0, 1, 2, 3 and -3/4, -1/2, -1/4, 0. The query 2, -0 is at node 2, 3, where the second node is +0. Assumes
--- nothing.
+-- The premises can be met on two axes: 0, 1, 2, 3 and -3/4, -1/2, -1/4, 0. The query 2, -0 is at node 2, 3, where the second node is +0.
 use mathlib.Core.Path.{_≡_, refl}
 use mathlib.Core.Bool.{true, false}
 use mathlib.Core.List.{List, [], _∷_}
@@ -16,7 +15,7 @@ use Rattle.multicubic.specs.Grid.{sizeChecks}
 use Rattle.grid.specs.Query.{valueAnswer}
 use Rattle.grid.specs.Nodes.{stored}
 use Rattle.grid.proofs.Decide.{each, all-fit}
-use Rattle.regular.specs.Grid.{gridOf, AllPremises}
+use Rattle.regular_query.specs.Grid.{gridOf, AllPremises}
 use Rattle.regular.proofs.Guarantees.{node}
 
 abbrev axes : List Axis

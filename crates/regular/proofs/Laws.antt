@@ -1,4 +1,4 @@
--- Demand 3 of each axis of a regular grid that is accepted and within the premises. Assumes nothing.
+-- Demand 3 of each axis of a regular grid that is accepted and within the premises.
 use mathlib.Core.Path.{_≡_, sym, subst}
 use mathlib.Core.Bool.{Bool, false}
 use mathlib.Core.List.{List, [], _∷_}
@@ -17,8 +17,8 @@ use Rattle.multicubic.proofs.Sizes.{or-false}
 use Rattle.regular_axis.proofs.AtNodes.{at-node}
 use Rattle.grid.proofs.Premises.{NodeLaws, Long}
 use Rattle.grid.proofs.Sizes.{all-long}
-use Rattle.regular.specs.Grid.{countsOf, gridAxes, gridOf, AllPremises}
-use Rattle.regular.proofs.Sizes.{counts-taken, passed}
+use Rattle.regular_query.specs.Grid.{countsOf, gridAxes, gridOf, AllPremises}
+use Rattle.regular_query.proofs.Sizes.{counts-taken, passed}
 
 laws : (f : Format) (straight : Bool) (axes : List Axis) → anyOver (countsOf axes) ≡ false → Long (countsOf axes) → AllPremises axes → NodeLaws f (gridAxes f straight axes)
 laws f straight [] within long premises = tt

@@ -1,7 +1,4 @@
--- Laws of a regular grid.
-pub mod Sizes
+-- Demand 3 on a regular grid.
 pub mod Laws
 pub mod Guarantees
 pub mod Examples
-pub mod Calls
-pub mod Locating

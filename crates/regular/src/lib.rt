@@ -1,17 +1,17 @@
 // A regular grid of src/multicubic/regular.rs: `new`, the place, the value and the gradient of a query.
 ghost use mathlib.Core.Path.{_≡_};
 ghost use mathlib.Core.Bool.{Bool};
-ghost use Prim.Native.Nat.{_≤_, _<_};
+ghost use Prim.Native.Nat.{_≤_};
 ghost use lib.ListN.{length, take};
 ghost use lib.Ieee.{binary64};
 ghost use Rattle.multicubic.specs.Grid.{lowest};
+ghost use Rattle.multicubic.specs.Same.{asAnswer};
 ghost use Rattle.multicubic.specs.declared.EdgeMode.{EdgeMode};
-ghost use Rattle.multicubic.specs.declared.Outcome.the-variants.{Accepted};
-ghost use Rattle.reduction.specs.Value.{stridesOf};
-ghost use Rattle.grid.specs.Query.{outcomeOf, at, placeAnswer, valueAnswer, gradientAnswer};
-ghost use Rattle.grid.specs.Internal.{Located, PlacedOn, Rows, valueOn, componentOn, gradientOn};
-ghost use Rattle.regular.specs.Grid.{notRising, countsOf, checksOf, Taken, gridAxes, gridOf};
-use grid::origins_of;
+ghost use Rattle.grid.specs.Query.{find, foundOutcome, outcomeOf, at, placeAnswer, valueAnswer, gradientAnswer};
+ghost use Rattle.grid.specs.Internal.{Located, gradientTo};
+ghost use Rattle.regular_query.specs.Grid.{notRising, checksOf, axesIn, gridOf};
+ghost use Rattle.regular_query.specs.Internal.{Taken, Ready};
+use grid::Quantity;
 use multicubic::Answer;
 use multicubic::AxesLength;
 use multicubic::Axis;
@@ -19,22 +19,16 @@ use multicubic::EdgeMode;
 use multicubic::GradientAnswer;
 use multicubic::Loc;
 use multicubic::Outcome;
-use multicubic::Place;
 use multicubic::PlaceAnswer;
+use multicubic::answered;
 use multicubic::check_sizes;
 use multicubic::linearize_extrapolation;
 use multicubic::nowhere;
-use reduction::reduce;
-use reduction::reduce_component;
+use multicubic::outcome_of;
+use multicubic::refused_query;
 use reduction::strides;
-use regular_axis::derivatives_at;
-use regular_axis::weights_at;
-
-pub fn counts_of(axes: [Axis; 4]) -> [usize; 4]
-    ensures { λ r. ⌜ r ≡ countsOf axes ⌝ }
-{
-    [axes[0].count, axes[1].count, axes[2].count, axes[3].count]
-}
+use regular_query::answer_at;
+use regular_query::counts_of;
 
 // Check 5: the lowest axis whose step is not above 0.
 fn first_not_rising(axis_count: usize, axes: [Axis; 4]) -> Outcome
@@ -63,43 +57,27 @@ pub fn new(axis_count: usize, axes: [Axis; 4], vals: &[f64]) -> Outcome
 {
     let sizes = check_sizes(axis_count, counts_of(axes), vals.len(), AxesLength::Regular);
     match sizes {
-        Outcome::Refused {
-            number,
-            query,
-            axis,
-        } => Outcome::Refused {
-            number,
-            query,
-            axis,
-        },
+        Outcome::Refused { .. } => sizes,
         Outcome::Accepted => first_not_rising(axis_count, axes),
     }
 }
 
-// A query's place on every axis, or refusal 8 with its number and its lowest unplaceable axis.
-pub fn locate(axis_count: usize, axes: [Axis; 4], x: [f64; 4], query: usize) -> PlaceAnswer
+// A query's place on every axis, or refusal 8 with its lowest unplaceable axis.
+fn locate(axis_count: usize, axes: [Axis; 4], x: [f64; 4]) -> PlaceAnswer
     requires { ⌜ Taken «axis_count» axes ⌝ }
-    ensures { λ r. ⌜ ((straight : Bool) → Located query (gridAxes binary64 straight (take «axis_count» axes)) (at x) r) ⌝ }
+    ensures { λ r. ⌜ ((straight : Bool) → Located 0 (axesIn binary64 straight «axis_count» axes) (at x) r) ⌝ }
 {
     let mut places = nowhere();
     let mut i: usize = 0;
     while i < axis_count {
         let loc = regular_axis::get_loc(axes[i], x[i]);
-        match loc {
-            Loc::Unplaceable => {
-                return PlaceAnswer {
-                    outcome: Outcome::Refused {
-                        number: 8,
-                        query,
-                        axis: i,
-                    },
-                    places: nowhere(),
-                };
-            }
-            Loc::At(place) => {
-                places[i] = place;
-            }
-        }
+        let Loc::At(place) = loc else {
+            return PlaceAnswer {
+                outcome: refused_query(0, i),
+                places: nowhere(),
+            };
+        };
+        places[i] = place;
         i += 1;
     }
     PlaceAnswer {
@@ -110,95 +88,21 @@ pub fn locate(axis_count: usize, axes: [Axis; 4], x: [f64; 4], query: usize) -> 
 
 // The place of a query on a grid: the grid's checks, then origin and class on every axis, or 8.
 pub fn get_loc(axis_count: usize, axes: [Axis; 4], vals: &[f64], x: [f64; 4]) -> PlaceAnswer
-    ensures { λ r. ⌜ ((mode : EdgeMode) → r .outcome ≡ outcomeOf (gridOf binary64 «axis_count» axes (now (vals .entry)) mode) (at x)) ⌝ }
-    ensures { λ r. ⌜ ((mode : EdgeMode) → r .places ≡ placeAnswer (gridOf binary64 «axis_count» axes (now (vals .entry)) mode) (at x)) ⌝ }
+    ensures { λ r. ⌜
+        ((mode : EdgeMode) → r .outcome ≡ outcomeOf (gridOf binary64 «axis_count» axes (now (vals .entry)) mode) (at x))
+        ⌝ }
+    ensures { λ r. ⌜
+        ((mode : EdgeMode) → r .places ≡ placeAnswer (gridOf binary64 «axis_count» axes (now (vals .entry)) mode) (at x))
+        ⌝ }
 {
     let checked = new(axis_count, axes, vals);
     match checked {
-        Outcome::Refused {
-            number,
-            query,
-            axis,
-        } => PlaceAnswer {
-            outcome: Outcome::Refused {
-                number,
-                query,
-                axis,
-            },
+        Outcome::Refused { .. } => PlaceAnswer {
+            outcome: checked,
             places: nowhere(),
         },
-        Outcome::Accepted => locate(axis_count, axes, x, 0),
+        Outcome::Accepted => locate(axis_count, axes, x),
     }
-}
-
-// The four weights of every axis, at a query's places.
-fn weights_of(
-    axis_count: usize,
-    axes: [Axis; 4],
-    linearize_extrapolation: bool,
-    x: [f64; 4],
-    places: [Place; 4],
-) -> [[f64; 4]; 4]
-    requires { ⌜ Taken «axis_count» axes ⌝ }
-    requires { ⌜ PlacedOn (gridAxes binary64 «linearize_extrapolation» (take «axis_count» axes)) (at x) places ⌝ }
-    ensures { λ r. ⌜ Rows (gridAxes binary64 «linearize_extrapolation» (take «axis_count» axes)) (at x) places r ⌝ }
-{
-    let mut weights = [[0.0; 4]; 4];
-    let mut i: usize = 0;
-    while i < axis_count {
-        weights[i] = weights_at(axes[i], x[i], places[i], linearize_extrapolation);
-        i += 1;
-    }
-    weights
-}
-
-// The value at a query's places.
-pub fn value_at(
-    axis_count: usize,
-    axes: [Axis; 4],
-    vals: &[f64],
-    linearize_extrapolation: bool,
-    strides: [usize; 4],
-    x: [f64; 4],
-    places: [Place; 4],
-) -> f64
-    requires { ⌜ checksOf «axis_count» axes (length (now vals)) ≡ Accepted ⌝ }
-    requires { ⌜ take «axis_count» strides ≡ stridesOf (take «axis_count» (countsOf axes)) ⌝ }
-    requires { ⌜ PlacedOn (gridAxes binary64 «linearize_extrapolation» (take «axis_count» axes)) (at x) places ⌝ }
-    ensures { λ r. ⌜ r ≡ valueOn binary64 (gridAxes binary64 «linearize_extrapolation» (take «axis_count» axes)) (now (vals .entry)) (at x) ⌝ }
-{
-    let weights = weights_of(axis_count, axes, linearize_extrapolation, x, places);
-    reduce(axis_count, vals, weights, strides, origins_of(places))
-}
-
-// Component d of the gradient there.
-pub fn component_at(
-    axis_count: usize,
-    axes: [Axis; 4],
-    vals: &[f64],
-    linearize_extrapolation: bool,
-    strides: [usize; 4],
-    x: [f64; 4],
-    places: [Place; 4],
-    d: usize,
-) -> f64
-    requires { ⌜ checksOf «axis_count» axes (length (now vals)) ≡ Accepted ⌝ }
-    requires { ⌜ take «axis_count» strides ≡ stridesOf (take «axis_count» (countsOf axes)) ⌝ }
-    requires { ⌜ PlacedOn (gridAxes binary64 «linearize_extrapolation» (take «axis_count» axes)) (at x) places ⌝ }
-    requires { ⌜ d < «axis_count» ⌝ }
-    ensures { λ r. ⌜ r ≡ componentOn binary64 (gridAxes binary64 «linearize_extrapolation» (take «axis_count» axes)) (now (vals .entry)) (at x) d ⌝ }
-{
-    let weights = weights_of(axis_count, axes, linearize_extrapolation, x, places);
-    let derivatives = derivatives_at(axes[d], x[d], places[d], linearize_extrapolation);
-    reduce_component(
-        axis_count,
-        vals,
-        weights,
-        d,
-        derivatives,
-        strides,
-        origins_of(places),
-    )
 }
 
 // The value at a query, or the refusal.
@@ -209,37 +113,26 @@ pub fn interp_one(
     mode: EdgeMode,
     x: [f64; 4],
 ) -> Answer
-    ensures { λ r. ⌜ r ≡ valueAnswer binary64 (gridOf binary64 «axis_count» axes (now (vals .entry)) mode) (at x) ⌝ }
+    ensures { λ r. ⌜ asAnswer r ≡ valueAnswer binary64 (gridOf binary64 «axis_count» axes (now (vals .entry)) mode) (at x) ⌝ }
 {
-    let loc = get_loc(axis_count, axes, vals, x);
-    let outcome = loc.outcome;
-    match outcome {
-        Outcome::Refused {
-            number,
-            query,
-            axis,
-        } => Answer::Refused {
-            number,
-            query,
-            axis,
-        },
-        Outcome::Accepted => {
-            let places = loc.places;
-            let strides = strides(axis_count, counts_of(axes));
-            Answer::Value(value_at(
-                axis_count,
-                axes,
-                vals,
-                linearize_extrapolation(mode),
-                strides,
-                x,
-                places,
-            ))
-        }
+    let checked = new(axis_count, axes, vals);
+    match checked {
+        Outcome::Refused { .. } => answered(checked, 0.0),
+        Outcome::Accepted => answer_at(
+            axis_count,
+            axes,
+            vals,
+            linearize_extrapolation(mode),
+            strides(axis_count, counts_of(axes)),
+            &x,
+            1,
+            0,
+            Quantity::Value,
+        ),
     }
 }
 
-// The gradient at a query's places.
+// The gradient on a grid that is taken, component by component.
 fn gradient_at(
     axis_count: usize,
     axes: [Axis; 4],
@@ -247,29 +140,45 @@ fn gradient_at(
     linearize_extrapolation: bool,
     strides: [usize; 4],
     x: [f64; 4],
-    places: [Place; 4],
-) -> [f64; 4]
-    requires { ⌜ checksOf «axis_count» axes (length (now vals)) ≡ Accepted ⌝ }
-    requires { ⌜ take «axis_count» strides ≡ stridesOf (take «axis_count» (countsOf axes)) ⌝ }
-    requires { ⌜ PlacedOn (gridAxes binary64 «linearize_extrapolation» (take «axis_count» axes)) (at x) places ⌝ }
-    ensures { λ r. ⌜ r ≡ gradientOn binary64 (gridAxes binary64 «linearize_extrapolation» (take «axis_count» axes)) (now (vals .entry)) (at x) ⌝ }
+) -> GradientAnswer
+    requires { ⌜ Ready «axis_count» axes (length (now vals)) strides ⌝ }
+    ensures { λ r. ⌜ r .outcome ≡ foundOutcome 0 (find 0 (axesIn binary64 «linearize_extrapolation» «axis_count» axes) (at x)) ⌝ }
+    ensures { λ r. ⌜
+        r .gradient ≡ gradientTo binary64 (axesIn binary64 «linearize_extrapolation» «axis_count» axes) (now (vals .entry))
+        (find 0 (axesIn binary64 «linearize_extrapolation» «axis_count» axes) (at x))
+        ⌝ }
 {
     let mut gradient = [0.0; 4];
     let mut d: usize = 0;
     while d < axis_count {
-        gradient[d] = component_at(
+        let component = answer_at(
             axis_count,
             axes,
             vals,
             linearize_extrapolation,
             strides,
-            x,
-            places,
-            d,
+            &x,
+            1,
+            0,
+            Quantity::Component(d),
         );
+        match component {
+            Answer::Refused { .. } => {
+                return GradientAnswer {
+                    outcome: outcome_of(component),
+                    gradient: [0.0; 4],
+                };
+            }
+            Answer::Value(v) => {
+                gradient[d] = v;
+            }
+        }
         d += 1;
     }
-    gradient
+    GradientAnswer {
+        outcome: Outcome::Accepted,
+        gradient,
+    }
 }
 
 // The gradient at a query, or the refusal.
@@ -283,37 +192,19 @@ pub fn interp_one_grad(
     ensures { λ r. ⌜ r .outcome ≡ outcomeOf (gridOf binary64 «axis_count» axes (now (vals .entry)) mode) (at x) ⌝ }
     ensures { λ r. ⌜ r .gradient ≡ gradientAnswer binary64 (gridOf binary64 «axis_count» axes (now (vals .entry)) mode) (at x) ⌝ }
 {
-    let loc = get_loc(axis_count, axes, vals, x);
-    let outcome = loc.outcome;
-    match outcome {
-        Outcome::Refused {
-            number,
-            query,
-            axis,
-        } => GradientAnswer {
-            outcome: Outcome::Refused {
-                number,
-                query,
-                axis,
-            },
+    let checked = new(axis_count, axes, vals);
+    match checked {
+        Outcome::Refused { .. } => GradientAnswer {
+            outcome: checked,
             gradient: [0.0; 4],
         },
-        Outcome::Accepted => {
-            let places = loc.places;
-            let strides = strides(axis_count, counts_of(axes));
-            let gradient = gradient_at(
-                axis_count,
-                axes,
-                vals,
-                linearize_extrapolation(mode),
-                strides,
-                x,
-                places,
-            );
-            GradientAnswer {
-                outcome: Outcome::Accepted,
-                gradient,
-            }
-        }
+        Outcome::Accepted => gradient_at(
+            axis_count,
+            axes,
+            vals,
+            linearize_extrapolation(mode),
+            strides(axis_count, counts_of(axes)),
+            x,
+        ),
     }
 }

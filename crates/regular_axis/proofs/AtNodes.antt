@@ -1,5 +1,5 @@
 -- At a query equal to node i (a zero of either sign, where the node is a zero) L is i - 1, and the row of weights is one at
--- node i's place in the block and a zero elsewhere. Assumes nothing.
+-- node i's place in the block and a zero elsewhere.
 use mathlib.Core.Path.{_≡_, refl, sym, ap, _∙_, subst}
 use mathlib.Core.Logic.{⊎-elim}
 use mathlib.Core.Bool.{Bool, true, false}

@@ -1,4 +1,4 @@
--- Under the premises the quotient and t are exact at the nodes: whole numbers of steps. Assumes nothing.
+-- Under the premises the quotient and t are exact at the nodes: whole numbers of steps.
 use mathlib.Core.Path.{_≡_, refl, sym, ap, _∙_, subst}
 use mathlib.Core.Bool.{Bool, true, false, cond}
 use Prim.Native.Nat.{ℕ, zero, suc, _+_, _-_, _^_, _≤_, _<_}

@@ -1,4 +1,4 @@
--- The premises can be met: nodes from -3/4 in steps of 1/4. Node 3 is +0, and -0 is a query at it. Assumes nothing.
+-- The premises can be met: nodes from -3/4 in steps of 1/4. Node 3 is +0, and -0 is a query at it.
 use mathlib.Core.Path.{refl}
 use mathlib.Core.Bool.{Bool, true, false}
 use lib.IntN.{pos, negsuc}

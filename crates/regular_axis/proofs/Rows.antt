@@ -1,4 +1,4 @@
--- The rows of weights at the nodes, by the class and t, by computation in each format. Assumes nothing.
+-- The rows of weights at the nodes, by the class and t, by computation in each format.
 use mathlib.Core.Path.{_≡_, refl, _∙_}
 use mathlib.Core.Bool.{Bool, true, false, cond}
 use mathlib.Core.List.{List, [], _∷_}

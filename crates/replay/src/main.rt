@@ -1,8 +1,8 @@
 // Replays the corpus of answers that the Rust gave (data/corpus.bin; its format is in docs/CORPUS.md) and compares every answer of every call.
-use replay_report::report;
-use replay_report::say;
+use harness_report::report;
+use harness_report::say;
+use harness_words::decode;
 use replay_walk::run;
-use replay_words::decode;
 
 fn replay_bytes(bytes: &[u8]) {
     let got = bytes.len();

@@ -1,25 +1,27 @@
 // Walks the corpus: each group, each of its queries, then its batches.
 ghost use Prim.Native.Nat.{_≤_};
-use replay_batches::Walk;
-use replay_batches::marked_words;
-use replay_batches::put;
-use replay_batches::put_gradient;
-use replay_batches::run_interp;
-use replay_batches::run_interp_grad;
-use replay_calls::NEW;
-use replay_calls::call_new;
-use replay_calls::same_outcome;
-use replay_calls::same_single;
-use replay_corpus::CUT_SHORT;
-use replay_corpus::Expected;
-use replay_corpus::Group;
-use replay_corpus::TRAILING;
-use replay_corpus::expected_at;
-use replay_corpus::group_at;
-use replay_corpus::part;
-use replay_corpus::query;
-use replay_words::Tally;
-use replay_words::word;
+use harness_batches::Walk;
+use harness_batches::marked_words;
+use harness_batches::put;
+use harness_batches::put_gradient;
+use harness_batches::run_batches;
+use harness_batches::with_tally;
+use harness_calls::NEW;
+use harness_calls::call_new;
+use harness_calls::same_outcome;
+use harness_calls::same_single;
+use harness_corpus::CUT_SHORT;
+use harness_corpus::Expected;
+use harness_corpus::Group;
+use harness_corpus::TRAILING;
+use harness_corpus::expected_at;
+use harness_corpus::group_at;
+use harness_corpus::part;
+use harness_corpus::query;
+use harness_corpus::refusal;
+use harness_words::Tally;
+use harness_words::clear;
+use harness_words::word;
 
 // What the batches give, once query i is known.
 fn stop_at(w: Walk, i: u64, e: Expected) -> Walk {
@@ -106,15 +108,7 @@ fn run_queries(
 
 // A grid that `new` refuses: every single call gives the same refusal.
 fn run_refused(g: Group, axes: &[f64], vals: &[f64], tally: Tally) -> Tally {
-    let e = Expected {
-        state: 0,
-        number: g.number,
-        axis: g.axis,
-        places: [0; 4],
-        value: 0,
-        gradient: [0; 4],
-        next: 0,
-    };
+    let e = refusal(g.number, g.axis);
     same_single(tally, g, axes, vals, [0.0; 4], e)
 }
 
@@ -124,12 +118,6 @@ fn run_new(g: Group, axes: &[f64], vals: &[f64], tally: Tally) -> Tally {
         return t;
     }
     run_refused(g, axes, vals, t)
-}
-
-fn with_tally(w: Walk, tally: Tally) -> Walk {
-    let mut r = w;
-    r.tally = tally;
-    r
 }
 
 // A group that was read. A refused one has no queries.
@@ -161,8 +149,8 @@ fn run_grid(
         &mut values,
         &mut gradients,
     );
-    let w = with_tally(w, run_interp(g, axes, vals, queries, w, &values));
-    with_tally(w, run_interp_grad(g, axes, vals, queries, w, &gradients))
+    let t = run_batches(g, axes, vals, queries, w, &values, &gradients);
+    with_tally(w, t)
 }
 
 // The group at w's next word.
@@ -205,18 +193,7 @@ pub fn run(words: &[u64], floats: &[f64]) -> Tally {
 
 fn start() -> Walk {
     Walk {
-        tally: Tally {
-            state: 0,
-            groups: 0,
-            queries: 0,
-            comparisons: 0,
-            query: 0,
-            call: 0,
-            item: 0,
-            place: 0,
-            expected: 0,
-            found: 0,
-        },
+        tally: clear(),
         at: 1,
         number: 0,
         query: 0,

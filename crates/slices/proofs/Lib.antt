@@ -1,2 +1,3 @@
--- Laws of the slices that are lent.
+-- Laws of slices that are read and written, and of a grid that is gathered from them.
 pub mod Laws
+pub mod Lent

@@ -1,20 +1,13 @@
-// What the calls for C share: arrays gathered from slices of any length, the refusals of slices that are too short, and what is written beside
-// the number.
+// What slices of any length add to the calls: arrays gathered from them, and the refusals of those that are too short.
 ghost use mathlib.Core.Path.{_≡_};
-ghost use mathlib.Core.Bool.{_||_};
-ghost use Prim.Native.Nat.{_≤_, _<_};
-ghost use lib.Dec.{ltb};
-ghost use lib.ListN.{length, getD, take, drop};
-ghost use mathlib.Core.List.{_++_};
+ghost use Prim.Native.Nat.{min};
+ghost use lib.ListN.{getD};
 ghost use Rattle.ieee.specs.Numbers.{zero};
-ghost use Rattle.multicubic.specs.Answers.{numberOf};
-ghost use Rattle.multicubic.specs.Grid.{refuse, _then_};
-ghost use Rattle.slices.specs.Slices.{countsFrom, queryFrom, axesFrom, sliceChecks, told, modeOf, classNumber, classNumbers};
+ghost use Rattle.slices.specs.Axes.{axisFrom, axesFrom};
+ghost use Rattle.slices.specs.Slices.{countsFrom, queryFrom, modeOf, slicesOf, querySlicesOf, lower};
 use multicubic::Axis;
 use multicubic::EdgeMode;
 use multicubic::Outcome;
-use multicubic::Place;
-use multicubic::Saturation;
 
 fn count_at(counts: &[usize], i: usize) -> usize
     ensures { λ r. ⌜ r ≡ getD (now (counts .entry)) i 1 ⌝ }
@@ -50,116 +43,24 @@ pub fn query_from(x: &[f64]) -> [f64; 4]
     [x0, x1, x2, x3]
 }
 
+fn axis_from(counts: &[usize], starts: &[f64], steps: &[f64], i: usize) -> Axis
+    ensures { λ r. ⌜ r ≡ axisFrom (now (counts .entry)) (now (starts .entry)) (now (steps .entry)) i ⌝ }
+{
+    let start = float_at(starts, i);
+    let step = float_at(steps, i);
+    let count = count_at(counts, i);
+    Axis { start, step, count }
+}
+
 // Four regular axes.
 pub fn axes_from(counts: &[usize], starts: &[f64], steps: &[f64]) -> [Axis; 4]
     ensures { λ r. ⌜ r ≡ axesFrom (now (counts .entry)) (now (starts .entry)) (now (steps .entry)) ⌝ }
 {
-    let c = counts_from(counts);
-    let s = query_from(starts);
-    let h = query_from(steps);
-    let a0 = Axis {
-        start: s[0],
-        step: h[0],
-        count: c[0],
-    };
-    let a1 = Axis {
-        start: s[1],
-        step: h[1],
-        count: c[1],
-    };
-    let a2 = Axis {
-        start: s[2],
-        step: h[2],
-        count: c[2],
-    };
-    let a3 = Axis {
-        start: s[3],
-        step: h[3],
-        count: c[3],
-    };
+    let a0 = axis_from(counts, starts, steps, 0);
+    let a1 = axis_from(counts, starts, steps, 1);
+    let a2 = axis_from(counts, starts, steps, 2);
+    let a3 = axis_from(counts, starts, steps, 3);
     [a0, a1, a2, a3]
-}
-
-// The checks of a grid, with 3 for a slice shorter than the axis count and 7 for one that cannot hold what is to be written.
-pub fn check_slices(checked: Outcome, short: bool, missing: bool) -> Outcome
-    ensures { λ r. ⌜ r ≡ (sliceChecks short checked then refuse missing 7) ⌝ }
-{
-    match checked {
-        Outcome::Refused {
-            number,
-            query,
-            axis,
-        } => {
-            if number < 3 {
-                return Outcome::Refused {
-                    number,
-                    query,
-                    axis,
-                };
-            }
-            if short {
-                return Outcome::Refused {
-                    number: 3,
-                    query: 0,
-                    axis: 0,
-                };
-            }
-            Outcome::Refused {
-                number,
-                query,
-                axis,
-            }
-        }
-        Outcome::Accepted => {
-            if short {
-                return Outcome::Refused {
-                    number: 3,
-                    query: 0,
-                    axis: 0,
-                };
-            }
-            if missing {
-                return Outcome::Refused {
-                    number: 7,
-                    query: 0,
-                    axis: 0,
-                };
-            }
-            Outcome::Accepted
-        }
-    }
-}
-
-// Writes query and axis, on every number but 7, and gives the number.
-pub fn tell(outcome: Outcome, refusal: &mut [usize]) -> u8
-    ensures { λ r. ⌜ r ≡ numberOf outcome ⌝ }
-    ensures { λ r. ⌜ now (refusal .exit) ≡ told outcome (now (refusal .entry)) ⌝ }
-{
-    match outcome {
-        Outcome::Refused {
-            number,
-            query,
-            axis,
-        } => {
-            if number == 7 {
-                return 7;
-            }
-            if refusal.len() < 2 {
-                return number;
-            }
-            refusal[0] = query;
-            refusal[1] = axis;
-            number
-        }
-        Outcome::Accepted => {
-            if refusal.len() < 2 {
-                return 0;
-            }
-            refusal[0] = 0;
-            refusal[1] = 0;
-            0
-        }
-    }
 }
 
 // The setting.
@@ -173,75 +74,80 @@ pub fn mode_of(straight: bool) -> EdgeMode
     }
 }
 
-fn class_number(class: Saturation) -> u8
-    ensures { λ r. ⌜ r ≡ classNumber class ⌝ }
+// The lesser of two lengths.
+pub fn least(a: usize, b: usize) -> usize
+    ensures { λ r. ⌜ r ≡ min a b ⌝ }
 {
-    match class {
-        Saturation::None => 0,
-        Saturation::InsideLow => 1,
-        Saturation::OutsideLow => 2,
-        Saturation::InsideHigh => 3,
-        Saturation::OutsideHigh => 4,
+    if a < b { a } else { b }
+}
+
+// The least of three lengths.
+pub fn shortest_of(a: usize, b: usize, c: usize) -> usize
+    ensures { λ r. ⌜ r ≡ min a (min b c) ⌝ }
+{
+    least(a, least(b, c))
+}
+
+fn refused(number: u8) -> Outcome
+    ensures { λ r. ⌜ r ≡ Outcome.Refused number 0 0 ⌝ }
+{
+    Outcome::Refused {
+        number,
+        query: 0,
+        axis: 0,
     }
 }
 
-pub fn either(a: bool, b: bool) -> bool
-    ensures { λ r. ⌜ r ≡ (a || b) ⌝ }
+// The slices of a call without a single query, by the shortest that is read and the length of `refusal`.
+pub fn check_slices(axis_count: usize, shortest: usize, refusal: usize) -> Outcome
+    ensures { λ r. ⌜ r ≡ slicesOf «axis_count» shortest refusal ⌝ }
 {
-    if a {
-        return true;
+    if shortest < axis_count {
+        return refused(3);
     }
-    b
+    if refusal < 2 {
+        return refused(7);
+    }
+    Outcome::Accepted
 }
 
-// Whether one of four lengths is below n.
-pub fn any_below(n: usize, a: usize, b: usize, c: usize, d: usize) -> bool
-    ensures { λ r. ⌜ r ≡ (ltb a n || ltb b n || ltb c n || ltb d n) ⌝ }
+// Those of a single query: of what is to be written `room` entries are lent, and `need` are needed.
+pub fn check_query_slices(
+    axis_count: usize,
+    shortest: usize,
+    query: usize,
+    refusal: usize,
+    room: usize,
+    need: usize,
+) -> Outcome
+    ensures { λ r. ⌜ r ≡ querySlicesOf «axis_count» shortest query refusal room need ⌝ }
 {
-    if a < n {
-        return true;
-    }
-    if b < n {
-        return true;
-    }
-    if c < n {
-        return true;
-    }
-    d < n
-}
-
-// The first n of four, as entries of a slice.
-pub fn put_floats(n: usize, xs: [f64; 4], out: &mut [f64])
-    requires { ⌜ (n ≤ 4) × (n ≤ length (now out)) ⌝ }
-    ensures { λ _. ⌜ now (out .exit) ≡ take n xs ++ drop n (now (out .entry)) ⌝ }
-{
-    let mut i: usize = 0;
-    while i < n {
-        out[i] = xs[i];
-        i += 1;
-    }
-}
-
-pub fn put_origins(n: usize, xs: [usize; 4], out: &mut [usize])
-    requires { ⌜ (n ≤ 4) × (n ≤ length (now out)) ⌝ }
-    ensures { λ _. ⌜ now (out .exit) ≡ take n xs ++ drop n (now (out .entry)) ⌝ }
-{
-    let mut i: usize = 0;
-    while i < n {
-        out[i] = xs[i];
-        i += 1;
+    let slices = check_slices(axis_count, least(shortest, query), refusal);
+    match slices {
+        Outcome::Refused { .. } => slices,
+        Outcome::Accepted => {
+            if room < need {
+                return refused(7);
+            }
+            slices
+        }
     }
 }
 
-pub fn put_classes(n: usize, places: [Place; 4], out: &mut [u8])
-    requires { ⌜ (n ≤ 4) × (n ≤ length (now out)) ⌝ }
-    ensures { λ _. ⌜ now (out .exit) ≡ take n (classNumbers places) ++ drop n (now (out .entry)) ⌝ }
+// Of the slices' refusal and the grid's own the one with the lower number.
+pub fn lower(slices: Outcome, checked: Outcome) -> Outcome
+    ensures { λ r. ⌜ r ≡ lower slices checked ⌝ }
 {
-    let mut i: usize = 0;
-    while i < n {
-        let place = places[i];
-        let class = place.class;
-        out[i] = class_number(class);
-        i += 1;
+    match slices {
+        Outcome::Refused { number: last, .. } => match checked {
+            Outcome::Refused { number, .. } => {
+                if number < last {
+                    return checked;
+                }
+                slices
+            }
+            Outcome::Accepted => slices,
+        },
+        Outcome::Accepted => checked,
     }
 }

@@ -3,6 +3,7 @@
 //!   bench list                              the names of the cases
 //!   bench once SIDE CASE [TIMES [QUERIES]]  one side (rust or ours) of one case, 10 times 10,000 queries, for callgrind
 //! Both sides run in one process, by turns, over the same queries. Each answer is compared before anything is timed.
+//! At the end the ratios that are limited, three axes of 20: values at most 2.0 times the Rust's time, gradients 2.5. Exit code 1 where one is over.
 #[allow(dead_code)]
 #[path = "../cases.rs"]
 mod cases;
@@ -185,6 +186,7 @@ fn all(args: &[String]) {
     println!("{repeats} repeats, {queries} queries, {outside} percent of the coordinates outside; ns per query");
     println!("{:37} {:>9} {:>9} {:>9} {:>9} {:>8} {:>8}", "", "Rust", "", "ours", "", "ours/Rust", "");
     println!("{:37} {:>9} {:>9} {:>9} {:>9} {:>8} {:>8}", "case", "median", "least", "median", "least", "median", "least");
+    let mut limited = vec![];
     for case in cases(queries, outside) {
         let (mut a, mut b) = (case.buffer(), case.buffer());
         case.rust(&mut a);
@@ -203,14 +205,31 @@ fn all(args: &[String]) {
                 times[side].push(start.elapsed().as_nanos() as f64 / queries as f64);
             }
         }
+        let mut pairs: Vec<f64> = times[0].iter().zip(&times[1]).map(|(rust, ours)| ours / rust).collect();
+        pairs.sort_by(f64::total_cmp);
+        let limit = match case.call {
+            Call::Values => 2.0,
+            Call::Gradients => 2.5,
+            Call::One | Call::NewAndOne => f64::INFINITY,
+        };
+        if case.name.contains("20x20x20") && limit.is_finite() {
+            limited.push((case.name.clone(), pairs[pairs.len() / 2], limit));
+        }
         let [rust, ours] = times.map(|mut t| {
             t.sort_by(f64::total_cmp);
             (t[t.len() / 2], t[0])
         });
         println!(
             "{:37} {:9.2} {:9.2} {:9.2} {:9.2} {:8.3} {:8.3}",
-            case.name, rust.0, rust.1, ours.0, ours.1, ours.0 / rust.0, ours.1 / rust.1
+            case.name, rust.0, rust.1, ours.0, ours.1, pairs[pairs.len() / 2], ours.1 / rust.1
         );
+    }
+    println!("\nlimits, the median ratio of {repeats} pairs:");
+    for (name, ratio, limit) in &limited {
+        println!("{name:37} {ratio:8.3} of {limit:.1}  {}", if ratio <= limit { "within" } else { "OVER" });
+    }
+    if limited.iter().any(|(_, ratio, limit)| ratio > limit) {
+        std::process::exit(1);
     }
 }
 

@@ -1,101 +1,10 @@
--- `veltzuma_rectilinear_interp_grad` meets its contract. Assumes nothing.
-use Prim.Native.Nat.{_*_, _/_}
-use mathlib.Core.Path.{_≡_, _∙_, refl, sym, ap}
-use mathlib.Core.Bool.{true, false, _||_}
-use lib.Dec.{ltb}
-use lib.ListN.{length}
-use lib.Ieee.{binary64}
-use borrow.Author.Needs.{needs}
-use denote.Ref.{now}
-use Rattle.multicubic.specs.declared.EdgeMode.the-variants as EdgeMode
-use Rattle.multicubic.specs.declared.Outcome.the-variants.{Refused}
-use Rattle.multicubic.specs.Answers.{numberOf}
-use Rattle.multicubic.specs.Grid.{_then_}
-use Rattle.grid.specs.Query.{at}
-use Rattle.grid.specs.Batch.{checkBatch, gradientChecks, gradOutcome, gradBuffer}
-use Rattle.grid.proofs.Batches.{grad-unwritten, grad-refused}
-use Rattle.slices.specs.Slices.{countsFrom, lent, told, modeOf}
-use Rattle.slices.proofs.Laws.{lent-all, lent-refused}
-use Rattle.rectilinear.specs.Grid.{gridOf}
+-- The buffer is filled, and the outcome told.
+use Rattle.capi.proofs.Laws.{interp-grad-leaves}
 use Rattle.capi.proofs.veltzuma_rectilinear_interp_grad.Statement.{statement}
 use Rattle.capi.proofs.veltzuma_rectilinear_interp_grad.Tie as tie
 
-counts-from-requires : tie.Need-counts-from-requires
-counts-from-requires c κs = search needs
-
-either-requires : tie.Need-either-requires
-either-requires c κs = search needs
-
-either-requires-2 : tie.Need-either-requires-2
-either-requires-2 c κs = search needs
-
-new-requires : tie.Need-new-requires
-new-requires c κs = search needs
-
-check-slices-requires : tie.Need-check-slices-requires
-check-slices-requires c κs = search needs
-
-tell-requires : tie.Need-tell-requires
-tell-requires c κs = search needs
-
-same-length : tie.Need-same-length
-same-length c = search needs
-
-returns : tie.Need-returns
-returns c =
-    let a = c .before .before .before .before .before .before .before .before .before .before .before .before .before .before .before .before .args in
-    let short = (ltb (length (now (a .counts))) (a .axis-count) || ltb (a .axis-count) (a .axis-count)) in
-    let missing = (ltb (length (now (a .refusal))) 2) in
-    let e : (short || missing) ≡ true = rw (c .before .before .before .before .before .before .before .before .either .ensures) at (sym (c .before .before .before .before .before .before .before .either2 .ensures) ∙ c .before .before .before .before .before .before .if1 .taken) in
-    let checked : c .before .before .before .before .check-slices .result ≡ lent short missing (gridOf binary64 (a .axis-count) (countsFrom (now (a .counts))) (now (a .axes)) (now (a .vals)) (modeOf (a .straight))) .checked = c .before .before .before .before .check-slices .ensures ∙ rw (c .before .before .before .before .before .new .ensures, c .before .before .before .before .before .before .before .before .before .counts-from .ensures, c .before .before .before .before .before .before .before .before .either .ensures) refl in
-    let g = lent short missing (gridOf binary64 (a .axis-count) (countsFrom (now (a .counts))) (now (a .axes)) (now (a .vals)) (modeOf (a .straight))) in
-    let r = lent-refused (gridOf binary64 (a .axis-count) (countsFrom (now (a .counts))) (now (a .axes)) (now (a .vals)) (modeOf (a .straight))) short missing e in
-    let refused : gradientChecks binary64 g (now (a .queries)) (now (a .out)) ≡ Refused (r .0) (r .1) (r .2) = ap (λ o. o then checkBatch (a .axis-count) ((length (now (a .out)) / (a .axis-count))) (length (now (a .queries))) (((a .axis-count) * (length (now (a .out)) / (a .axis-count)))) (length (now (a .out)))) (r .3) in
-    let o = checked ∙ r .3 ∙ sym (grad-refused binary64 g (now (a .queries)) (now (a .out)) (r .0) (r .1) (r .2) refused) in
-    (c .before .before .tell .ensures .0 ∙ ap numberOf o, (c .before .before .tell .ensures .1 ∙ ap (λ o. told o (now (a .refusal))) o, sym (grad-unwritten binary64 g (now (a .queries)) (now (a .out)) (r .0) (r .1) (r .2) refused)))
-
-mode-of-requires : tie.Need-mode-of-requires
-mode-of-requires c κs = search needs
-
-interp-grad-requires : tie.Need-interp-grad-requires
-interp-grad-requires c κs = search needs
-
-tell-requires-2 : tie.Need-tell-requires-2
-tell-requires-2 c κs = search needs
-
-same-length-2 : tie.Need-same-length-2
-same-length-2 c = search needs
-
-same-length-3 : tie.Need-same-length-3
-same-length-3 c = search needs
-
-returns-2 : tie.Need-returns-2
-returns-2 c =
-    let a = c .before .before .before .before .before .before .before .before .before .before .before .before .before .before .before .before .before .before .before .args in
-    let short = (ltb (length (now (a .counts))) (a .axis-count) || ltb (a .axis-count) (a .axis-count)) in
-    let missing = (ltb (length (now (a .refusal))) 2) in
-    let e : (short || missing) ≡ false = rw (c .before .before .before .before .before .before .before .before .before .before .before .either .ensures) at (sym (c .before .before .before .before .before .before .before .before .before .before .either2 .ensures) ∙ c .before .before .before .before .before .before .before .before .before .if1 .left) in
-    let whole = sym (lent-all (gridOf binary64 (a .axis-count) (countsFrom (now (a .counts))) (now (a .axes)) (now (a .vals)) (modeOf (a .straight))) short missing e) in
-    let called = c .before .before .before .before .before .before .interp-grad .ensures in
-    let o : c .before .before .before .before .before .before .interp-grad .result ≡ gradOutcome binary64 (lent short missing (gridOf binary64 (a .axis-count) (countsFrom (now (a .counts))) (now (a .axes)) (now (a .vals)) (modeOf (a .straight)))) (now (a .queries)) (now (a .out)) = called .0 ∙ rw (c .before .before .before .before .before .before .before .before .before .before .before .before .counts-from .ensures, c .before .before .before .before .before .before .before .before .mode-of .ensures) (ap (λ h. gradOutcome binary64 h (now (a .queries)) (now (a .out))) whole) in
-    let filled : _ ≡ gradBuffer binary64 (lent short missing (gridOf binary64 (a .axis-count) (countsFrom (now (a .counts))) (now (a .axes)) (now (a .vals)) (modeOf (a .straight)))) (now (a .queries)) (now (a .out)) = called .1 ∙ rw (c .before .before .before .before .before .before .before .before .before .before .before .before .counts-from .ensures, c .before .before .before .before .before .before .before .before .mode-of .ensures) (ap (λ h. gradBuffer binary64 h (now (a .queries)) (now (a .out))) whole) in
-    (c .before .before .tell2 .ensures .0 ∙ ap numberOf o, (c .before .before .tell2 .ensures .1 ∙ ap (λ o. told o (now (a .refusal))) o, filled))
+told : tie.Need-returns
+told c = interp-grad-leaves _ _ (c .before .before .tell .ensures .0) (c .before .before .tell .ensures .1) _ _ _ (c .before .before .before .before .before .before .interp-grad .ensures .0) (c .before .before .before .before .before .before .interp-grad .ensures .1)
 
 pub veltzuma-rectilinear-interp-grad-spec : {M : Type 1} → statement M
-veltzuma-rectilinear-interp-grad-spec =
-    tie.close
-    (tie.spec
-    counts-from-requires
-    either-requires
-    either-requires-2
-    new-requires
-    check-slices-requires
-    tell-requires
-    same-length
-    returns
-    mode-of-requires
-    interp-grad-requires
-    tell-requires-2
-    same-length-2
-    same-length-3
-    returns-2)
+veltzuma-rectilinear-interp-grad-spec = tie.close (tie.spec (λ c κs. tt) (λ c κs. tt) (λ c. c .before .before .tell .kept .1 .0) (λ c. c .before .before .before .before .before .before .interp-grad .kept .1 .1 .1 .1 .1 .1 .1 .0) told)

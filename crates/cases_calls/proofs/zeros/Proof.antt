@@ -1,4 +1,4 @@
--- `zeros` meets its contract. Assumes nothing.
+-- So many zeros are a list of that length.
 use mathlib.Core.Path.{sym}
 use lib.ListN.{length-replicate}
 use lib.Ieee.{Float, binary64, ofBits}

@@ -1,4 +1,4 @@
--- `check_batch` meets its contract. Assumes nothing.
+-- `check_batch`: each test is one of check 7's.
 use mathlib.Core.Path.{_∙_}
 use native.Mathlib.Nat.{mul-le-mul-right}
 use native.Mathlib.Omega.{arith}

@@ -1,4 +1,4 @@
--- `hermite_basis_derivative` meets its contract. Assumes nothing.
+-- `hermite_basis_derivative`: operation by operation the definition.
 use lib.Ieee.{ofBits}
 use mathlib.Core.Path.{refl}
 use Rattle.interp_math.specs.Basis.{hermiteBasisDerivative}

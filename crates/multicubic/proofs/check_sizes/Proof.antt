@@ -1,4 +1,4 @@
--- `check_sizes` meets its contract. Assumes nothing.
+-- `check_sizes`: one law of proofs/Checks.antt for each return.
 use mathlib.Core.Path.{_∙_, sym, ap}
 use native.Mathlib.Omega.{arith}
 use Rattle.multicubic.specs.Grid.{misjoined}
@@ -7,27 +7,15 @@ use borrow.Author.Needs.{needs}
 use Rattle.multicubic.proofs.check_sizes.Statement.{statement}
 use Rattle.multicubic.proofs.check_sizes.Tie as tie
 
-refused-requires : tie.Need-refused-requires
-refused-requires c κs = search needs
-
 returns : tie.Need-returns
 returns c =
     let a = c .before .before .args in
     c .refused .ensures ∙ no-axes (a .axis-count) (a .counts) (a .values) (a .axes) (c .before .if1 .taken)
 
-refused-requires-2 : tie.Need-refused-requires-2
-refused-requires-2 c κs = search needs
-
 returns-2 : tie.Need-returns-2
 returns-2 c =
     let a = c .before .before .before .args in
     c .refused2 .ensures ∙ many-axes (a .axis-count) (a .counts) (a .values) (a .axes) (c .before .if2 .taken)
-
-any-over-requires : tie.Need-any-over-requires
-any-over-requires c κs = search needs
-
-refused-requires-3 : tie.Need-refused-requires-3
-refused-requires-3 c κs = search needs
 
 returns-3 : tie.Need-returns-3
 returns-3 c =
@@ -38,18 +26,12 @@ returns-3 c =
 product-of-requires : tie.Need-product-of-requires
 product-of-requires c κs = (search needs, sym (c .before .any-over .ensures) ∙ c .if3 .left)
 
-refused-requires-4 : tie.Need-refused-requires-4
-refused-requires-4 c κs = search needs
-
 returns-4 : tie.Need-returns-4
 returns-4 c =
     let p = c .before .before in
     let s = p .before .before in
     let a = s .before .before .before .args in
     c .refused4 .ensures ∙ large-product (a .axis-count) (a .counts) (a .values) (a .axes) (s .before .before .if1 .left) (s .before .if2 .left) (omega (arith, p .product-of .ensures, c .before .if4 .taken))
-
-refused-requires-5 : tie.Need-refused-requires-5
-refused-requires-5 c κs = search needs
 
 returns-5 : tie.Need-returns-5
 returns-5 c =
@@ -64,12 +46,6 @@ sum-of-requires c κs =
     let s = c .before .before .before .before in
     (search needs, sym (s .any-over .ensures) ∙ c .before .before .before .if3 .left)
 
-misjoined-requires : tie.Need-misjoined-requires
-misjoined-requires c κs = search needs
-
-refused-requires-6 : tie.Need-refused-requires-6
-refused-requires-6 c κs = search needs
-
 returns-6 : tie.Need-returns-6
 returns-6 c =
     let p = c .before .before .before .before .before .before in
@@ -78,9 +54,6 @@ returns-6 c =
     let none = sym (s .any-over .ensures) ∙ p .before .if3 .left in
     let m = c .before .before in
     c .refused6 .ensures ∙ other-join (a .axis-count) (a .counts) (a .values) (a .axes) (s .before .before .if1 .left) (s .before .if2 .left) none (omega (arith, p .product-of .ensures, m .before .before .before .if4 .left)) (ap (misjoined (a .axes)) (sym (m .before .sum-of .ensures)) ∙ sym (m .misjoined .ensures) ∙ c .before .if6 .taken)
-
-first-short-requires : tie.Need-first-short-requires
-first-short-requires c κs = search needs
 
 returns-7 : tie.Need-returns-7
 returns-7 c =
@@ -94,22 +67,5 @@ returns-7 c =
 pub check-sizes-spec : {M : Type 1} → statement M
 check-sizes-spec =
     tie.close
-    (tie.spec
-    refused-requires
-    returns
-    refused-requires-2
-    returns-2
-    any-over-requires
-    refused-requires-3
-    returns-3
-    product-of-requires
-    refused-requires-4
-    returns-4
-    refused-requires-5
-    returns-5
-    sum-of-requires
-    misjoined-requires
-    refused-requires-6
-    returns-6
-    first-short-requires
-    returns-7)
+    (tie.spec (search needs) returns (search needs) returns-2 (search needs) (search needs) returns-3 product-of-requires (search needs)
+    returns-4 (search needs) returns-5 sum-of-requires (search needs) (search needs) returns-6 (search needs) returns-7)

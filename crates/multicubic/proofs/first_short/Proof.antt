@@ -1,13 +1,13 @@
--- `first_short` meets its contract. Assumes nothing.
+-- `first_short`: what is left of the counts answers for all of them.
 use borrow.Author.Needs.{needs}
 use Prim.Native.Nat.{_≤_, _-_}
 use mathlib.Core.Path.{_≡_, _∙_, sym, refl}
 use native.Mathlib.Omega.{arith}
 use lib.ListN.{length, take}
-use lib.Seq.{slice, slice-empty}
+use lib.Seq.{slice}
 use lib.Dec.{ltb}
 use Rattle.multicubic.specs.Grid.{lowest}
-use Rattle.multicubic.proofs.Sizes.{fault-here, fault-later}
+use Rattle.multicubic.proofs.Sizes.{slice-end, fault-here, fault-later}
 use borrow.Author.Tests.{lt-ltb, le-ltb}
 use Rattle.multicubic.proofs.first_short.Statement.{statement}
 use Rattle.multicubic.proofs.first_short.Tie as tie
@@ -21,23 +21,11 @@ abbrev μ-loop : tie.MeasureT-loop
 loop-holds : tie.Need-loop-holds Inv-loop μ-loop
 loop-holds c = (search needs, c .pre, c .good .1 .0 .1 .0 .1, refl)
 
-mul-count : tie.Need-mul-count Inv-loop μ-loop
-mul-count c = omega arith
-
-array-read-count : tie.Need-array-read-count Inv-loop μ-loop
-array-read-count c = omega arith
-
 returns : tie.Need-returns Inv-loop μ-loop
 returns c =
     let l = c .before .before .loop in
     let a = c .before .before .before .args in
     sym (l .inv .3 ∙ fault-here (λ k. ltb k 4) 4 (a .t2) 0 (a .n) (l .i) (c .before .loop-test .taken) (omega arith) (lt-ltb _ _ (c .if1 .taken)))
-
-add-i : tie.Need-add-i Inv-loop μ-loop
-add-i c = omega arith
-
-loop-less : tie.Need-loop-less Inv-loop μ-loop
-loop-less c = omega arith
 
 loop-again : tie.Need-loop-again Inv-loop μ-loop
 loop-again c =
@@ -49,20 +37,9 @@ returns-2 : tie.Need-returns-2 Inv-loop μ-loop
 returns-2 c =
     let l = c .before .loop in
     let a = c .before .before .args in
-    let e : l .i ≡ a .n = omega arith in
-    sym (l .inv .3 ∙ rw (e, slice-empty))
+    sym (l .inv .3 ∙ rw (slice-end (a .t2) (a .n) (l .i) (omega arith) (omega arith)))
 
 pub first-short-spec : {M : Type 1} → statement M
 first-short-spec =
     tie.close
-    (tie.spec
-    Inv-loop
-    μ-loop
-    loop-holds
-    mul-count
-    array-read-count
-    returns
-    add-i
-    loop-less
-    loop-again
-    returns-2)
+    (tie.spec Inv-loop μ-loop loop-holds (search needs) (search needs) returns (search needs) (search needs) loop-again returns-2)

@@ -1,4 +1,4 @@
--- `place_from` meets its contract. Assumes nothing.
+-- `place_from`: one law of proofs/Places.antt for each class.
 use mathlib.Core.Path.{sym}
 use native.Mathlib.Omega.{arith}
 use Rattle.multicubic.proofs.Places.{outside-low, inside-low, interior, inside-high, outside-high}
@@ -12,30 +12,15 @@ returns c = sym (outside-low (c .before .args .n) (c .before .args .k) (c .if1 .
 returns-2 : tie.Need-returns-2
 returns-2 c = sym (inside-low (c .before .before .args .n) (c .before .before .args .k) (c .if2 .taken))
 
-sub-if3 : tie.Need-sub-if3
-sub-if3 c = search needs
-
-sub-t7 : tie.Need-sub-t7
-sub-t7 c = search needs
-
 returns-3 : tie.Need-returns-3
 returns-3 c =
     let a = c .before .before .before .args in
     sym (interior (a .n) (a .k) (omega arith) (omega arith) (c .if3 .taken))
 
-sub-if4 : tie.Need-sub-if4
-sub-if4 c = search needs
-
-sub-t9 : tie.Need-sub-t9
-sub-t9 c = search needs
-
 returns-4 : tie.Need-returns-4
 returns-4 c =
     let a = c .before .before .before .before .args in
     sym (inside-high (a .n) (a .k) (omega arith) (omega arith) (c .if4 .taken))
-
-sub-t6 : tie.Need-sub-t6
-sub-t6 c = search needs
 
 returns-5 : tie.Need-returns-5
 returns-5 c =
@@ -45,4 +30,4 @@ returns-5 c =
 pub place-from-spec : {M : Type 1} → statement M
 place-from-spec =
     tie.close
-    (tie.spec returns returns-2 sub-if3 sub-t7 returns-3 sub-if4 sub-t9 returns-4 sub-t6 returns-5)
+    (tie.spec returns returns-2 (search needs) (search needs) returns-3 (search needs) (search needs) returns-4 (search needs) returns-5)

@@ -1,14 +1,14 @@
--- `product_of` meets its contract. Assumes nothing.
+-- `product_of`: p times the product of what is left; counts up to 4,096 keep it below 2^48.
 use borrow.Author.Needs.{needs}
 use Prim.Native.Nat.{_≤_, _+_, _-_, _*_, _^_}
 use mathlib.Core.Path.{_≡_, _∙_, sym}
 use mathlib.Core.Bool.{false}
 use native.Mathlib.Omega.{arith}
 use lib.ListN.{length, take}
-use lib.Seq.{slice, slice-empty}
+use lib.Seq.{slice}
 use native.Mathlib.Nat.{mul-one}
 use Rattle.multicubic.specs.Grid.{product, anyOver}
-use Rattle.multicubic.proofs.Sizes.{within, product-here, grows, small}
+use Rattle.multicubic.proofs.Sizes.{slice-end, within, product-here, grows, small}
 use Rattle.multicubic.proofs.product_of.Statement.{statement}
 use Rattle.multicubic.proofs.product_of.Tie as tie
 
@@ -21,24 +21,12 @@ abbrev μ-loop : tie.MeasureT-loop
 loop-holds : tie.Need-loop-holds Inv-loop μ-loop
 loop-holds c = (search needs, c .pre .0, c .good .1 .0 .1 .0 .1, c .pre .1, search needs, omega arith)
 
-mul-count : tie.Need-mul-count Inv-loop μ-loop
-mul-count c = omega arith
-
-array-read-count : tie.Need-array-read-count Inv-loop μ-loop
-array-read-count c = omega arith
-
 mul-p : tie.Need-mul-p Inv-loop μ-loop
 mul-p c =
     let l = c .before .loop in
     let a = c .before .before .args in
     let w = within (a .t2) (a .n) (l .i) (c .loop-test .taken) (omega arith) (l .inv .3) in
     omega (arith, small _ (l .i + 1) (omega arith) (grows (l .p) _ (l .i) (l .inv .4) (w .0)))
-
-add-i : tie.Need-add-i Inv-loop μ-loop
-add-i c = omega arith
-
-loop-less : tie.Need-loop-less Inv-loop μ-loop
-loop-less c = omega arith
 
 loop-again : tie.Need-loop-again Inv-loop μ-loop
 loop-again c =
@@ -51,20 +39,7 @@ returns : tie.Need-returns Inv-loop μ-loop
 returns c =
     let l = c .before .loop in
     let a = c .before .before .args in
-    let e : l .i ≡ a .n = omega arith in
-    sym (l .inv .5 ∙ rw (e, slice-empty) (mul-one (l .p)))
+    sym (l .inv .5 ∙ rw (slice-end (a .t2) (a .n) (l .i) (omega arith) (omega arith)) (mul-one (l .p)))
 
 pub product-of-spec : {M : Type 1} → statement M
-product-of-spec =
-    tie.close
-    (tie.spec
-    Inv-loop
-    μ-loop
-    loop-holds
-    mul-count
-    array-read-count
-    mul-p
-    add-i
-    loop-less
-    loop-again
-    returns)
+product-of-spec = tie.close (tie.spec Inv-loop μ-loop loop-holds (search needs) (search needs) mul-p (search needs) (search needs) loop-again returns)

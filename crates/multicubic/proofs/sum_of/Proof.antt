@@ -1,13 +1,13 @@
--- `sum_of` meets its contract. Assumes nothing.
+-- `sum_of`: the total and the sum of what is left; counts up to 4,096 keep it small.
 use borrow.Author.Needs.{needs}
 use Prim.Native.Nat.{_≤_, _+_, _-_, _*_}
 use mathlib.Core.Path.{_≡_, _∙_, sym}
 use mathlib.Core.Bool.{false}
 use native.Mathlib.Omega.{arith}
 use lib.ListN.{length, take}
-use lib.Seq.{slice, slice-empty}
+use lib.Seq.{slice}
 use Rattle.multicubic.specs.Grid.{sum, anyOver}
-use Rattle.multicubic.proofs.Sizes.{within, sum-here}
+use Rattle.multicubic.proofs.Sizes.{slice-end, within, sum-here}
 use Rattle.multicubic.proofs.sum_of.Statement.{statement}
 use Rattle.multicubic.proofs.sum_of.Tie as tie
 
@@ -20,23 +20,11 @@ abbrev μ-loop : tie.MeasureT-loop
 loop-holds : tie.Need-loop-holds Inv-loop μ-loop
 loop-holds c = (search needs, c .pre .0, c .good .1 .0 .1 .0 .1, c .pre .1, search needs, omega arith)
 
-mul-count : tie.Need-mul-count Inv-loop μ-loop
-mul-count c = omega arith
-
-array-read-count : tie.Need-array-read-count Inv-loop μ-loop
-array-read-count c = omega arith
-
 add-total : tie.Need-add-total Inv-loop μ-loop
 add-total c =
     let l = c .before .loop in
     let a = c .before .before .args in
     omega (arith, within (a .t2) (a .n) (l .i) (c .loop-test .taken) (omega arith) (l .inv .3) .0)
-
-add-i : tie.Need-add-i Inv-loop μ-loop
-add-i c = omega arith
-
-loop-less : tie.Need-loop-less Inv-loop μ-loop
-loop-less c = omega arith
 
 loop-again : tie.Need-loop-again Inv-loop μ-loop
 loop-again c =
@@ -49,20 +37,7 @@ returns : tie.Need-returns Inv-loop μ-loop
 returns c =
     let l = c .before .loop in
     let a = c .before .before .args in
-    let e : l .i ≡ a .n = omega arith in
-    sym (l .inv .5 ∙ rw (e, slice-empty) (omega arith))
+    sym (l .inv .5 ∙ rw (slice-end (a .t2) (a .n) (l .i) (omega arith) (omega arith)) (omega arith))
 
 pub sum-of-spec : {M : Type 1} → statement M
-sum-of-spec =
-    tie.close
-    (tie.spec
-    Inv-loop
-    μ-loop
-    loop-holds
-    mul-count
-    array-read-count
-    add-total
-    add-i
-    loop-less
-    loop-again
-    returns)
+sum-of-spec = tie.close (tie.spec Inv-loop μ-loop loop-holds (search needs) (search needs) add-total (search needs) (search needs) loop-again returns)

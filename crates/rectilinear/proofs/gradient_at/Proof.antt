@@ -1,68 +1,64 @@
--- `gradient_at` meets its contract. Assumes nothing.
+-- `gradient_at`: each turn adds a component, or meets the query's refusal.
 use Prim.Native.Nat.{_≤_, _-_}
 use mathlib.Core.Path.{_≡_, _∙_, refl}
 use native.Mathlib.Omega.{arith}
-use lib.ListN.{length, take, length-set}
+use lib.ListN.{length}
 use lib.Ieee.{binary64, ofBits}
 use denote.Ref.{now}
-use Rattle.rectilinear_order.specs.Grid.{axesOf}
-use Rattle.grid.specs.Query.{at}
-use Rattle.grid.proofs.Evaluating.{gradientUpTo, gradient-next, gradient-all}
-use Rattle.rectilinear.specs.Grid.{gridAxes}
-use Rattle.rectilinear.proofs.Sizes.{passed}
-use Rattle.rectilinear.proofs.Locating.{fit}
+use Rattle.grid.proofs.Fit.{Fit}
+use Rattle.grid.proofs.Singles.{Grading, grading-none, grading-turn, grading-refused, grading-done}
+use Rattle.rectilinear_query.specs.Grid.{axesIn}
+use Rattle.rectilinear_query.specs.Internal.{Ready}
+use Rattle.rectilinear_query.proofs.Locating.{taken-of, fit}
+use borrow.Author.Needs.{needs}
 use Rattle.rectilinear.proofs.gradient_at.Statement.{statement}
 use Rattle.rectilinear.proofs.gradient_at.Tie as tie
 
 abbrev Inv-loop : tie.InvT-loop
-Inv-loop axis-count counts axes vals linearize-extrapolation strides x places gradient₀ d₀ gradient d =
+Inv-loop axis-count counts axes vals linearize-extrapolation strides x gradient₀ d₀ gradient d =
     (d ≤ axis-count)
     × (axis-count ≤ 4)
-    × (length gradient ≡ 4)
-    × (gradient ≡ gradientUpTo binary64 (gridAxes binary64 linearize-extrapolation (axesOf (take axis-count counts) axes)) vals (at x) d)
+    × (length counts ≡ 4)
+    × (length x ≡ 4)
+    × Ready axis-count counts axes (length vals) strides
+    × Grading binary64 (axesIn binary64 linearize-extrapolation axis-count counts axes) vals x d gradient
 
 abbrev μ-loop : tie.MeasureT-loop
-μ-loop axis-count counts axes vals linearize-extrapolation strides x places gradient₀ d₀ gradient d = axis-count - d
+μ-loop axis-count counts axes vals linearize-extrapolation strides x gradient₀ d₀ gradient d = axis-count - d
+
+-- what holds at the loop's head: the grid's axes fit
+module _ (c : tie.At-loop Inv-loop μ-loop) where
+  fits : Fit (c .before .before .before .args .axis-count) (axesIn binary64 (c .before .before .before .args .linearize-extrapolation) (c .before .before .before .args .axis-count) (c .before .before .before .args .counts) (now (c .before .before .before .args .axes))) (length (now (c .before .before .before .args .vals)))
+  fits = fit binary64 (c .before .before .before .args .linearize-extrapolation) (c .loop .inv .2) (taken-of (c .loop .inv .4))
 
 loop-holds : tie.Need-loop-holds Inv-loop μ-loop
 unfolding ofBits
 loop-holds c =
-    let a = c .before .before .args in
-    (omega arith, passed (a .axis-count) (a .counts) (now (a .axes)) (length (now (a .vals))) (c .before .before .pre .0) .few, refl, refl)
+    let s = c .before .before in
+    let four = s .good .1 .0 .1 .0 .1 in
+    let f = fit binary64 (s .args .linearize-extrapolation) four (taken-of (s .pre)) in
+    (search needs, f .few, four, s .good .1 .1 .1 .1 .1 .1 .0 .1 .0 .1, s .pre, grading-none _ _ _ _ _ refl)
 
-component-at-requires : tie.Need-component-at-requires Inv-loop μ-loop
-component-at-requires c κs =
-    let s = c .before .before .before .before in
-    (s .pre .0, (s .pre .1 .0, (s .pre .1 .1, c .loop-test .taken)))
+answer-at-requires : tie.Need-answer-at-requires Inv-loop μ-loop
+answer-at-requires c κs =
+    let l = c .before .before in
+    (l .loop .inv .4, ((omega arith, omega arith), c .before .loop-test .taken))
 
-mul-gradient : tie.Need-mul-gradient Inv-loop μ-loop
-mul-gradient c = omega arith
-
-array-write-gradient : tie.Need-array-write-gradient Inv-loop μ-loop
-array-write-gradient c = omega arith
-
-add-d : tie.Need-add-d Inv-loop μ-loop
-add-d c = omega arith
-
-loop-less : tie.Need-loop-less Inv-loop μ-loop
-loop-less c = omega arith
+returns : tie.Need-returns Inv-loop μ-loop
+unfolding ofBits
+returns c =
+    let l = c .before .before .before .before .before .before in
+    let w = grading-refused (fits l) (l .loop .inv .5) (c .before .before .before .before .before .loop-test .taken) (c .before .before .before .answer-at .ensures) (c .before .enum-told .given .1) in
+    (c .outcome-of .ensures ∙ w .0, w .1)
 
 loop-again : tie.Need-loop-again Inv-loop μ-loop
 loop-again c =
-    let l = c .before .before .loop in
-    let s = c .before .before .before .before .before in
-    let a = s .args in
-    let f = fit binary64 (a .linearize-extrapolation) (a .axis-count) (a .counts) (now (a .axes)) (s .good .1 .0 .1 .0 .1) (length (now (a .vals)), s .pre .0) in
-    let next = gradient-next f (at (a .x)) (a .places) (s .pre .1 .1) binary64 (now (a .vals)) (l .d) (c .before .loop-test .taken) in
-    (omega arith, l .inv .1, rw length-set (l .inv .2), rw (l .inv .3, c .component-at .ensures) next)
+    let l = c .before .before .before .before .before .before in
+    let next = grading-turn (fits l) (l .loop .inv .5) (c .before .before .before .before .before .loop-test .taken) (c .before .before .before .answer-at .ensures) (c .before .component .given .1) in
+    (omega arith, l .loop .inv .1, l .loop .inv .2, l .loop .inv .3, l .loop .inv .4, next)
 
-returns : tie.Need-returns Inv-loop μ-loop
-returns c =
-    let l = c .before .loop in
-    let s = c .before .before .before .before in
-    let a = s .args in
-    let f = fit binary64 (a .linearize-extrapolation) (a .axis-count) (a .counts) (now (a .axes)) (s .good .1 .0 .1 .0 .1) (length (now (a .vals)), s .pre .0) in
-    l .inv .3 ∙ gradient-all f (at (a .x)) (a .places) (s .pre .1 .1) binary64 (now (a .vals)) (l .d) (omega arith)
+returns-2 : tie.Need-returns-2 Inv-loop μ-loop
+returns-2 c = grading-done (fits (c .before)) (c .before .loop .inv .5) (omega arith)
 
 pub gradient-at-spec : {M : Type 1} → statement M
 gradient-at-spec =
@@ -71,10 +67,15 @@ gradient-at-spec =
     Inv-loop
     μ-loop
     loop-holds
-    component-at-requires
-    mul-gradient
-    array-write-gradient
-    add-d
-    loop-less
+    (λ c. search needs)
+    answer-at-requires
+    (λ c. search needs)
+    (λ c κs. search needs)
+    returns
+    (λ c. search needs)
+    (λ c. omega arith)
+    (λ c. omega arith)
+    (λ c. omega arith)
+    (λ c. omega arith)
     loop-again
-    returns)
+    returns-2)

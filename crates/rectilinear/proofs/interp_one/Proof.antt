@@ -1,69 +1,49 @@
--- `interp_one` meets its contract. Assumes nothing.
-use mathlib.Core.Path.{_∙_, sym}
+-- `interp_one`: the grid's refusal, or what is asked of the only query of its batch.
+use mathlib.Core.Path.{sym, _∙_}
+use native.Mathlib.Omega.{arith}
 use lib.ListN.{length}
 use lib.Ieee.{binary64}
 use denote.Ref.{now}
-use Rattle.grid.specs.Query.{at}
-use Rattle.grid.proofs.Evaluating.{answer-refused, answer-value, answer-placed, answer-taken}
-use Rattle.rectilinear.specs.Grid.{gridOf}
-use Rattle.rectilinear.proofs.Sizes.{passed}
+use Rattle.grid.proofs.Singles.{value-refused, value-single}
+use Rattle.rectilinear_query.specs.Grid.{gridOf}
+use Rattle.rectilinear_query.proofs.Locating.{spaceable, ready-by}
 use borrow.Author.Needs.{needs}
 use Rattle.rectilinear.proofs.interp_one.Statement.{statement}
 use Rattle.rectilinear.proofs.interp_one.Tie as tie
 
-get-loc-requires : tie.Need-get-loc-requires
-get-loc-requires c κs = search needs
-
-enum-known-outcome : tie.Need-enum-known-outcome
-enum-known-outcome c = search needs
-
-enum-told : tie.Need-enum-told
-enum-told c = search needs
-
 strides-requires : tie.Need-strides-requires
 strides-requires c κs =
-    let s = c .before .before .before in
-    let a = s .before .before .before .args in
-    let g = gridOf binary64 (a .axis-count) (a .counts) (now (a .axes)) (now (a .vals)) (a .mode) in
-    let e = sym (s .get-loc .ensures .0 (a .mode)) ∙ c .before .enum-told .given .1 in
-    let p = passed (a .axis-count) (a .counts) (now (a .axes)) (length (now (a .vals))) (answer-taken g (at (a .x)) e) in
-    (p .few, p .within)
+    let a = c .before .before .before .before .before .before .args in
+    spaceable (a .axis-count) (a .counts) (now (a .axes)) (length (now (a .vals))) (sym (c .before .before .before .new .ensures) ∙ c .before .enum-told2 .given .1)
 
-linearize-extrapolation-requires : tie.Need-linearize-extrapolation-requires
-linearize-extrapolation-requires c κs = search needs
-
-value-at-requires : tie.Need-value-at-requires
-value-at-requires c κs =
-    let s = c .before .before .before .before .before in
-    let a = s .before .before .before .args in
-    let g = gridOf binary64 (a .axis-count) (a .counts) (now (a .axes)) (now (a .vals)) (a .mode) in
-    let e = sym (s .get-loc .ensures .0 (a .mode)) ∙ c .before .before .before .enum-told .given .1 in
-    let on = answer-placed g (at (a .x)) _ e (s .get-loc .ensures .1 (a .mode)) in
-    (answer-taken g (at (a .x)) e, (c .before .strides .ensures, rw (c .linearize-extrapolation .ensures) on))
+answer-at-requires : tie.Need-answer-at-requires
+answer-at-requires c κs =
+    let a = c .before .before .before .before .before .before .before .before .args in
+    let taken = sym (c .before .before .before .before .before .new .ensures) ∙ c .before .before .before .enum-told2 .given .1 in
+    let few = spaceable (a .axis-count) (a .counts) (now (a .axes)) (length (now (a .vals))) taken .0 in
+    (ready-by (a .axis-count) (a .counts) (now (a .axes)) (length (now (a .vals))) taken _ (c .before .strides .ensures), ((omega arith, omega arith), tt))
 
 returns : tie.Need-returns
 returns c =
-    let s = c .before .before .before in
-    let a = s .before .before .before .args in
-    answer-refused binary64 (gridOf binary64 (a .axis-count) (a .counts) (now (a .axes)) (now (a .vals)) (a .mode)) (at (a .x)) _ _ _ (sym (s .get-loc .ensures .0 (a .mode)) ∙ c .before .outcome .given .1)
+    let a = c .before .before .before .before .before .before .args in
+    c .answered .ensures ∙ value-refused binary64 (gridOf binary64 (a .axis-count) (a .counts) (now (a .axes)) (now (a .vals)) (a .mode)) (a .t6) _ _ (c .before .before .before .new .ensures) (c .before .enum-told .given .1)
 
 returns-2 : tie.Need-returns-2
 returns-2 c =
-    let s = c .before .before .before .before .before .before in
-    let a = s .before .before .before .args in
-    let g = gridOf binary64 (a .axis-count) (a .counts) (now (a .axes)) (now (a .vals)) (a .mode) in
-    let e = sym (s .get-loc .ensures .0 (a .mode)) ∙ c .before .before .before .before .enum-told .given .1 in
-    answer-value binary64 g (at (a .x)) _ e (c .value-at .ensures ∙ rw (c .before .linearize-extrapolation .ensures))
+    let a = c .before .before .before .before .before .before .before .before .before .args in
+    c .answer-at .ensures ∙ rw (c .before .before .before .linearize-extrapolation .ensures) (value-single binary64 (gridOf binary64 (a .axis-count) (a .counts) (now (a .axes)) (now (a .vals)) (a .mode)) (a .t6) (sym (c .before .before .before .before .before .before .new .ensures) ∙ c .before .before .before .before .enum-told2 .given .1))
 
 pub interp-one-spec : {M : Type 1} → statement M
 interp-one-spec =
     tie.close
     (tie.spec
-    get-loc-requires
-    enum-known-outcome
-    enum-told
+    (λ c κs. search needs)
+    (λ c. search needs)
+    (λ c κs. search needs)
+    (λ c. search needs)
+    (λ c κs. search needs)
     strides-requires
-    linearize-extrapolation-requires
-    value-at-requires
+    (λ c. search needs)
+    answer-at-requires
     returns
     returns-2)

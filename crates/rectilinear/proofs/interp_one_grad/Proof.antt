@@ -1,72 +1,48 @@
--- `interp_one_grad` meets its contract. Assumes nothing.
-use mathlib.Core.Path.{_∙_, sym}
+-- `interp_one_grad`: the grid's refusal, or the gradient that its axes give.
+use mathlib.Core.Path.{sym, _∙_}
 use lib.ListN.{length}
 use lib.Ieee.{binary64, ofBits}
 use denote.Ref.{now}
-use Rattle.grid.specs.Query.{at}
-use Rattle.grid.proofs.Evaluating.{gradient-refused, gradient-value, answer-placed, answer-taken}
-use Rattle.rectilinear.specs.Grid.{gridOf}
-use Rattle.rectilinear.proofs.Sizes.{passed}
+use Rattle.grid.proofs.Singles.{gradient-refused, gradient-single}
+use Rattle.rectilinear_query.specs.Grid.{gridOf}
+use Rattle.rectilinear_query.proofs.Locating.{spaceable, ready-by}
 use borrow.Author.Needs.{needs}
 use Rattle.rectilinear.proofs.interp_one_grad.Statement.{statement}
 use Rattle.rectilinear.proofs.interp_one_grad.Tie as tie
 
-get-loc-requires : tie.Need-get-loc-requires
-get-loc-requires c κs = search needs
-
-enum-known-outcome : tie.Need-enum-known-outcome
-enum-known-outcome c = search needs
-
-enum-told : tie.Need-enum-told
-enum-told c = search needs
-
 strides-requires : tie.Need-strides-requires
 strides-requires c κs =
-    let s = c .before .before .before in
-    let a = s .before .before .before .args in
-    let g = gridOf binary64 (a .axis-count) (a .counts) (now (a .axes)) (now (a .vals)) (a .mode) in
-    let e = sym (s .get-loc .ensures .0 (a .mode)) ∙ c .before .enum-told .given .1 in
-    let p = passed (a .axis-count) (a .counts) (now (a .axes)) (length (now (a .vals))) (answer-taken g (at (a .x)) e) in
-    (p .few, p .within)
-
-linearize-extrapolation-requires : tie.Need-linearize-extrapolation-requires
-linearize-extrapolation-requires c κs = search needs
+    let a = c .before .before .before .before .before .before .args in
+    spaceable (a .axis-count) (a .counts) (now (a .axes)) (length (now (a .vals))) (sym (c .before .before .before .new .ensures) ∙ c .before .enum-told2 .given .1)
 
 gradient-at-requires : tie.Need-gradient-at-requires
 gradient-at-requires c κs =
-    let s = c .before .before .before .before .before in
-    let a = s .before .before .before .args in
-    let g = gridOf binary64 (a .axis-count) (a .counts) (now (a .axes)) (now (a .vals)) (a .mode) in
-    let e = sym (s .get-loc .ensures .0 (a .mode)) ∙ c .before .before .before .enum-told .given .1 in
-    let on = answer-placed g (at (a .x)) _ e (s .get-loc .ensures .1 (a .mode)) in
-    (answer-taken g (at (a .x)) e, (c .before .strides .ensures, rw (c .linearize-extrapolation .ensures) on))
+    let a = c .before .before .before .before .before .before .before .args in
+    ready-by (a .axis-count) (a .counts) (now (a .axes)) (length (now (a .vals))) (sym (c .before .before .before .before .new .ensures) ∙ c .before .before .enum-told2 .given .1) _ (c .strides .ensures)
 
 returns : tie.Need-returns
 unfolding ofBits
 returns c =
-    let s = c .before .before .before in
-    let a = s .before .before .before .args in
-    let g = gridOf binary64 (a .axis-count) (a .counts) (now (a .axes)) (now (a .vals)) (a .mode) in
-    let e = sym (s .get-loc .ensures .0 (a .mode)) ∙ c .before .outcome .given .1 in
-    (sym e, gradient-refused binary64 g (at (a .x)) _ _ _ e)
+    let a = c .before .before .before .before .before .args in
+    let w = gradient-refused binary64 (gridOf binary64 (a .axis-count) (a .counts) (now (a .axes)) (now (a .vals)) (a .mode)) (a .x) _ _ _ (sym (c .before .before .new .ensures) ∙ c .enum-told .given .1) in
+    (c .before .before .new .ensures ∙ w .0, w .1)
 
 returns-2 : tie.Need-returns-2
 returns-2 c =
-    let s = c .before .before .before .before .before .before in
-    let a = s .before .before .before .args in
-    let g = gridOf binary64 (a .axis-count) (a .counts) (now (a .axes)) (now (a .vals)) (a .mode) in
-    let e = sym (s .get-loc .ensures .0 (a .mode)) ∙ c .before .before .before .before .enum-told .given .1 in
-    (sym e, gradient-value binary64 g (at (a .x)) _ e (c .gradient-at .ensures ∙ rw (c .before .linearize-extrapolation .ensures)))
+    let a = c .before .before .before .before .before .before .before .before .args in
+    let w = c .gradient-at .ensures in
+    let e = c .before .before .linearize-extrapolation .ensures in
+    gradient-single binary64 (gridOf binary64 (a .axis-count) (a .counts) (now (a .axes)) (now (a .vals)) (a .mode)) (a .x) _ _ (sym (c .before .before .before .before .before .new .ensures) ∙ c .before .before .before .enum-told2 .given .1) (w .0 ∙ rw e) (w .1 ∙ rw e)
 
 pub interp-one-grad-spec : {M : Type 1} → statement M
 interp-one-grad-spec =
     tie.close
     (tie.spec
-    get-loc-requires
-    enum-known-outcome
-    enum-told
+    (λ c κs. search needs)
+    (λ c. search needs)
+    (λ c. search needs)
+    (λ c κs. search needs)
     strides-requires
-    linearize-extrapolation-requires
     gradient-at-requires
     returns
     returns-2)

@@ -1,66 +1,17 @@
--- `grid_cell` meets its contract. Assumes nothing.
-use mathlib.Core.Path.{_≡_, sym}
-use Prim.Native.Nat.{suc, _+_}
-use native.Mathlib.Numerals.{add-one}
+-- `grid_cell`: the four entries that are read are the block's.
 use native.Mathlib.Omega.{arith}
-use Rattle.rectilinear_axis.proofs.Cell.{entries}
+use Rattle.rectilinear_axis.proofs.Cell.{read-is}
 use borrow.Author.Needs.{needs}
 use Rattle.rectilinear_axis.proofs.grid_cell.Statement.{statement}
 use Rattle.rectilinear_axis.proofs.grid_cell.Tie as tie
 
-mul-t3 : tie.Need-mul-t3
-mul-t3 c = search needs
-
-shared-slice-read-t5 : tie.Need-shared-slice-read-t5
-shared-slice-read-t5 c = search needs
-
-add-t6 : tie.Need-add-t6
-add-t6 c = search needs
-
-mul-t7 : tie.Need-mul-t7
-mul-t7 c = search needs
-
-shared-slice-read-t9 : tie.Need-shared-slice-read-t9
-shared-slice-read-t9 c = search needs
-
-add-t10 : tie.Need-add-t10
-add-t10 c = search needs
-
-mul-t11 : tie.Need-mul-t11
-mul-t11 c = search needs
-
-shared-slice-read-t13 : tie.Need-shared-slice-read-t13
-shared-slice-read-t13 c = search needs
-
-add-t14 : tie.Need-add-t14
-add-t14 c = search needs
-
-mul-t15 : tie.Need-mul-t15
-mul-t15 c = search needs
-
-shared-slice-read-t17 : tie.Need-shared-slice-read-t17
-shared-slice-read-t17 c = search needs
-
 returns : tie.Need-returns
 returns c =
     let a = c .before .before .before .before .args in
-    let two : a .origin + 2 ≡ suc (suc (a .origin)) = omega arith in
-    let three : a .origin + 3 ≡ suc (suc (suc (a .origin))) = omega arith in
-    rw (add-one, two, three) (sym (entries (a .grid .now) (a .origin) (omega arith)))
+    read-is (a .grid .now) (a .origin) (omega arith)
 
 pub grid-cell-spec : {M : Type 1} → statement M
 grid-cell-spec =
     tie.close
-    (tie.spec
-    mul-t3
-    shared-slice-read-t5
-    add-t6
-    mul-t7
-    shared-slice-read-t9
-    add-t10
-    mul-t11
-    shared-slice-read-t13
-    add-t14
-    mul-t15
-    shared-slice-read-t17
-    returns)
+    (tie.spec (search needs) (search needs) (search needs) (search needs) (search needs) (search needs) (search needs) (search needs)
+    (search needs) (search needs) (search needs) returns)

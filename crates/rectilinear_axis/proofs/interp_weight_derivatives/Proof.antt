@@ -1,69 +1,41 @@
--- `interp_weight_derivatives` meets its contract. Assumes nothing.
+-- `interp_weight_derivatives`: each class by the function of its arm, scaled.
+use mathlib.Core.Path.{ap, _∙_}
+use mathlib.Core.List.{List}
+use lib.Ieee.{Float, binary64, ofBits}
+use Rattle.interp_math.specs.Basis.{scaled}
+use Rattle.rectilinear_weights.specs.Weights.{interior}
+use Rattle.rectilinear_axis.specs.Weights.{slopeOne, slopeTwo}
 use borrow.Author.Needs.{needs}
 use Rattle.rectilinear_axis.proofs.interp_weight_derivatives.Statement.{statement}
 use Rattle.rectilinear_axis.proofs.interp_weight_derivatives.Tie as tie
 
-enum-told : tie.Need-enum-told
-enum-told c = search needs
-
-interior-weight-derivatives-requires : tie.Need-interior-weight-derivatives-requires
-interior-weight-derivatives-requires c κs = search needs
-
-enum-told-2 : tie.Need-enum-told-2
-enum-told-2 c = search needs
-
-low-weight-derivatives-requires : tie.Need-low-weight-derivatives-requires
-low-weight-derivatives-requires c κs = search needs
-
-enum-told-3 : tie.Need-enum-told-3
-enum-told-3 c = search needs
-
-low-weight-derivatives-requires-2 : tie.Need-low-weight-derivatives-requires-2
-low-weight-derivatives-requires-2 c κs = search needs
-
-enum-told-4 : tie.Need-enum-told-4
-enum-told-4 c = search needs
-
-high-weight-derivatives-requires : tie.Need-high-weight-derivatives-requires
-high-weight-derivatives-requires c κs = search needs
-
-enum-told-5 : tie.Need-enum-told-5
-enum-told-5 c = search needs
-
-high-weight-derivatives-requires-2 : tie.Need-high-weight-derivatives-requires-2
-high-weight-derivatives-requires-2 c κs = search needs
-
 returns : tie.Need-returns
-returns c = rw (c .before .enum-told .given .1, c .interior-weight-derivatives .ensures)
+unfolding ofBits
+returns c =
+    let d = c .before .before in
+    let cell = d .before .before .before .args .t1 in
+    let row = c .before .interior .ensures ∙ ap (λ (h : List Float). interior binary64 h (slopeOne binary64 cell) (slopeTwo binary64 cell)) (d .hermite-basis-derivative .ensures) in
+    rw (d .before .enum-told .given .1) (c .scale-weights .ensures ∙ ap (scaled binary64 _) row)
 
 returns-2 : tie.Need-returns-2
-returns-2 c = rw (c .before .enum-told2 .given .1, c .low-weight-derivatives .ensures)
+unfolding ofBits
+returns-2 c = rw (c .before .before .enum-told2 .given .1) (c .scale-weights2 .ensures ∙ ap (scaled binary64 _) (c .before .low-weight-derivatives .ensures))
 
 returns-3 : tie.Need-returns-3
-returns-3 c = rw (c .before .enum-told3 .given .1, c .low-weight-derivatives2 .ensures)
+unfolding ofBits
+returns-3 c = rw (c .before .before .enum-told3 .given .1) (c .scale-weights3 .ensures ∙ ap (scaled binary64 _) (c .before .low-weight-derivatives2 .ensures))
 
 returns-4 : tie.Need-returns-4
-returns-4 c = rw (c .before .enum-told4 .given .1, c .high-weight-derivatives .ensures)
+unfolding ofBits
+returns-4 c = rw (c .before .before .enum-told4 .given .1) (c .scale-weights4 .ensures ∙ ap (scaled binary64 _) (c .before .high-weight-derivatives .ensures))
 
 returns-5 : tie.Need-returns-5
-returns-5 c = rw (c .before .enum-told5 .given .1, c .high-weight-derivatives2 .ensures)
+unfolding ofBits
+returns-5 c = rw (c .before .before .enum-told5 .given .1) (c .scale-weights5 .ensures ∙ ap (scaled binary64 _) (c .before .high-weight-derivatives2 .ensures))
 
 pub interp-weight-derivatives-spec : {M : Type 1} → statement M
 interp-weight-derivatives-spec =
     tie.close
-    (tie.spec
-    enum-told
-    interior-weight-derivatives-requires
-    enum-told-2
-    low-weight-derivatives-requires
-    enum-told-3
-    low-weight-derivatives-requires-2
-    enum-told-4
-    high-weight-derivatives-requires
-    enum-told-5
-    high-weight-derivatives-requires-2
-    returns
-    returns-2
-    returns-3
-    returns-4
-    returns-5)
+    (tie.spec (search needs) (search needs) (search needs) (search needs) (search needs) (search needs) (search needs) (search needs)
+    (search needs) (search needs) (search needs) (search needs) (search needs) (search needs) (search needs) (search needs) (search needs)
+    (search needs) (search needs) (search needs) returns returns-2 returns-3 returns-4 returns-5)

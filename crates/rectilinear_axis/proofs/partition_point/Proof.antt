@@ -1,78 +1,43 @@
--- `partition_point` meets its contract. Assumes nothing.
-use Prim.Native.Nat.{ℕ, _+_, _/_, _≤_, _<_}
+-- `partition_point`: the count stays between lo and lo + size, and each turn leaves a quarter of size, or the last part.
+use Prim.Native.Nat.{_+_, _/_, _≤_}
 use native.Mathlib.Omega.{arith}
 use lib.ListN.{length}
-use Rattle.rectilinear_axis.proofs.Search.{Below, NotBelow, all-to, none-from, count-is}
+use Rattle.rectilinear_axis.specs.Place.{countBelow}
+use Rattle.rectilinear_axis.proofs.Search.{at-most, rest-holds}
+use borrow.Author.Needs.{needs}
 use Rattle.rectilinear_axis.proofs.partition_point.Statement.{statement}
 use Rattle.rectilinear_axis.proofs.partition_point.Tie as tie
 
 abbrev Inv-loop : tie.InvT-loop
-Inv-loop grid v lo₀ size₀ lo size = (lo + size ≤ length grid) × ((k : ℕ) → k < lo → Below grid v k) × ((k : ℕ) → lo + size ≤ k → k < length grid → NotBelow grid v k)
+Inv-loop grid v lo₀ size₀ lo size = (lo + size ≤ length grid) × (lo ≤ countBelow v grid) × (countBelow v grid ≤ lo + size)
 
 abbrev μ-loop : tie.MeasureT-loop
 μ-loop grid v lo₀ size₀ lo size = size
 
 loop-holds : tie.Need-loop-holds Inv-loop μ-loop
-loop-holds c = (omega arith, (λ k h. absurd (omega arith)), (λ k h u. absurd (omega arith)))
+loop-holds c =
+    let a = c .before .args in
+    (omega arith, omega arith, at-most (a .grid .now) (a .v) (0 + length (a .grid .now)) (λ k h u. absurd (omega arith)))
 
-add-mid : tie.Need-add-mid Inv-loop μ-loop
-add-mid c = omega arith
-
-mul-if1 : tie.Need-mul-if1 Inv-loop μ-loop
-mul-if1 c = omega arith
-
-shared-slice-read-if1 : tie.Need-shared-slice-read-if1 Inv-loop μ-loop
-shared-slice-read-if1 c = omega arith
-
-add-lo : tie.Need-add-lo Inv-loop μ-loop
-add-lo c = omega arith
-
-sub-size : tie.Need-sub-size Inv-loop μ-loop
-sub-size c = omega arith
-
-sub-size-2 : tie.Need-sub-size-2 Inv-loop μ-loop
-sub-size-2 c = omega arith
-
-loop-less : tie.Need-loop-less Inv-loop μ-loop
-loop-less c = omega arith
+forward-requires : tie.Need-forward-requires Inv-loop μ-loop
+forward-requires c κs = (omega arith, (c .before .before .before .pre, c .before .loop .inv .1))
 
 loop-again : tie.Need-loop-again Inv-loop μ-loop
 loop-again c =
-    let l = c .before .before .before .loop in
-    let s = c .before .before .before .before in
-    let a = all-to (s .args .grid .now) (s .args .v) (s .pre) (l .lo + l .size / 2) (omega arith) (c .if1 .taken) in
-    (omega arith, (λ k h. a k (omega arith)), (λ k h u. l .inv .2 k (omega arith) u))
+    let l = c .before .before .loop in
+    let f = c .forward .ensures in
+    (omega (arith, f .1), f .0, rest-holds _ (l .lo) (l .size / 4) (l .size) _ f (omega arith) (l .inv .2))
 
-loop-less-2 : tie.Need-loop-less-2 Inv-loop μ-loop
-loop-less-2 c = omega arith
-
-loop-again-2 : tie.Need-loop-again-2 Inv-loop μ-loop
-loop-again-2 c =
-    let l = c .before .before .before .loop in
-    let s = c .before .before .before .before in
-    (omega arith, l .inv .1, none-from (s .args .grid .now) (s .args .v) (s .pre) (l .lo + l .size / 2) (c .if1 .left))
+count-from-requires : tie.Need-count-from-requires Inv-loop μ-loop
+count-from-requires c κs =
+    let i = c .before .loop .inv in
+    (i .0, (c .before .before .before .pre, (i .1, i .2)))
 
 returns : tie.Need-returns Inv-loop μ-loop
-returns c =
-    let l = c .before .loop in
-    let a = c .before .before .args in
-    count-is (a .grid .now) (a .v) (l .lo) (omega arith) (l .inv .1) (λ k h u. l .inv .2 k (omega arith) u)
+returns c = c .count-from .ensures
 
 pub partition-point-spec : {M : Type 1} → statement M
 partition-point-spec =
     tie.close
-    (tie.spec
-    Inv-loop
-    μ-loop
-    loop-holds
-    add-mid
-    mul-if1
-    shared-slice-read-if1
-    add-lo
-    sub-size
-    sub-size-2
-    loop-less
-    loop-again
-    loop-less-2
-    loop-again-2
+    (tie.spec Inv-loop μ-loop loop-holds forward-requires (search needs) (search needs) (search needs) loop-again count-from-requires
     returns)

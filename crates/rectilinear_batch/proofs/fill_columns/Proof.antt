@@ -1,102 +1,56 @@
--- `fill_columns` meets its contract. Assumes nothing.
-use Prim.Native.Nat.{ℕ, _+_, _≤_, _*_, _-_}
-use mathlib.Core.Path.{_≡_, _∙_, refl, subst}
+-- `fill_columns`: each turn lends one column more, whole.
+use Prim.Native.Nat.{_-_}
+use mathlib.Core.Path.{_≡_, refl}
 use native.Mathlib.Omega.{arith}
-use lib.ListN.{length, take, drop, length-drop}
-use lib.Seq.{length-take-le}
-use lib.Ieee.{Float, binary64}
-use denote.Ref.{now}
-use Rattle.rectilinear_order.specs.Grid.{axesOf}
-use Rattle.grid.specs.Internal.{componentIn, Filled}
-use Rattle.grid.proofs.Evaluating.{column-room}
-use Rattle.grid.proofs.Running.{ColumnsTo, columns-none, columns-turn, columns-all}
-use Rattle.rectilinear.specs.Grid.{gridAxes}
-use Rattle.rectilinear.proofs.Sizes.{passed}
+use lib.ListN.{length}
+use lib.Ieee.{binary64}
+use Rattle.grid.proofs.Running.{Columns, columns-start, columns-next, columns-end, column-in, column-length}
+use Rattle.rectilinear_query.specs.Grid.{axesIn}
+use Rattle.rectilinear_query.proofs.Locating.{taken-of, fit}
 use Rattle.rectilinear_batch.proofs.fill_columns.Statement.{statement}
 use Rattle.rectilinear_batch.proofs.fill_columns.Tie as tie
 
 abbrev Inv-loop : tie.InvT-loop
-Inv-loop axis-count counts axes vals linearize-extrapolation strides queries stop count out₀ d₀ out d =
-    (d ≤ axis-count)
-    × (axis-count ≤ 4)
-    × (length out ≡ axis-count * count)
-    × (length out ≡ length out₀)
-    × ColumnsTo (componentIn binary64 (gridAxes binary64 linearize-extrapolation (axesOf (take axis-count counts) axes)) vals count queries) count stop out₀ d out
+Inv-loop axis-count counts axes vals linearize-extrapolation strides queries count out₀ outcome₀ d₀ out outcome d =
+    (length out ≡ length out₀)
+    × Columns binary64 (axesIn binary64 linearize-extrapolation axis-count counts axes) vals queries axis-count count out₀ d outcome out
 
 abbrev μ-loop : tie.MeasureT-loop
-μ-loop axis-count counts axes vals linearize-extrapolation strides queries stop count out₀ d₀ out d = axis-count - d
-
--- column d stands in the buffer
-fits-in : (c : tie.In-loop Inv-loop μ-loop) → c .before .loop .d * c .before .before .before .before .before .before .args .count + c .before .before .before .before .before .before .args .count ≤ length (c .before .loop .out)
-fits-in c =
-    let a = c .before .before .before .before .before .before .args in
-    omega (arith, column-room (c .before .loop .d) (a .axis-count) (a .count) (c .loop-test .taken))
-
--- and has as many entries as there are queries
-lent : (c : tie.In-loop Inv-loop μ-loop)
-    → length (take (c .before .loop .d * c .before .before .before .before .before .before .args .count + c .before .before .before .before .before .before .args .count - c .before .loop .d * c .before .before .before .before .before .before .args .count) (drop (c .before .loop .d * c .before .before .before .before .before .before .args .count) (c .before .loop .out))) ≡ c .before .before .before .before .before .before .args .count
-lent c =
-    let l = c .before .loop in
-    let n = c .before .before .before .before .before .before .args .count in
-    let e : l .d * n + n - l .d * n ≡ n = omega arith in
-    rw e (length-take-le n (drop (l .d * n) (l .out)) (simp length-drop (omega (arith, fits-in c))))
+μ-loop axis-count counts axes vals linearize-extrapolation strides queries count out₀ outcome₀ d₀ out outcome d = axis-count - d
 
 loop-holds : tie.Need-loop-holds Inv-loop μ-loop
-loop-holds c =
-    let s = c .before .before .before .before in
-    let a = s .args in
-    (omega arith, passed (a .axis-count) (a .counts) (now (a .axes)) (length (now (a .vals))) (s .pre .0) .few, s .pre .1 .1 .0 .1, refl, columns-none _ _ _ _)
+loop-holds c = (refl, columns-start _ _ _ _ _ _ _ _ (c .before .before .before .before .pre .1 .1))
 
 mul-at : tie.Need-mul-at Inv-loop μ-loop
-mul-at c = omega (arith, fits-in c, c .before .before .before .before .before .before .good)
+mul-at c = omega (arith, column-in (c .before .loop .inv .1) (c .loop-test .taken), c .before .before .before .before .before .before .good)
 
 add-end : tie.Need-add-end Inv-loop μ-loop
-add-end c = omega (arith, fits-in c, c .before .before .before .before .before .before .good)
+add-end c = omega (arith, column-in (c .before .loop .inv .1) (c .loop-test .taken), c .before .before .before .before .before .before .good)
 
-mul-fill-column : tie.Need-mul-fill-column Inv-loop μ-loop
-mul-fill-column c = omega (arith, fits-in c, c .before .before .before .before .before .before .good)
+mul-fill : tie.Need-mul-fill Inv-loop μ-loop
+mul-fill c = omega (arith, column-in (c .before .loop .inv .1) (c .loop-test .taken), c .before .before .before .before .before .before .good)
 
-sub-fill-column : tie.Need-sub-fill-column Inv-loop μ-loop
-sub-fill-column c = omega arith
+part-fill-end : tie.Need-part-fill-end Inv-loop μ-loop
+part-fill-end c = column-in (c .before .loop .inv .1) (c .loop-test .taken)
 
-part-fill-column-start : tie.Need-part-fill-column-start Inv-loop μ-loop
-part-fill-column-start c = omega arith
-
-part-fill-column-end : tie.Need-part-fill-column-end Inv-loop μ-loop
-part-fill-column-end c = fits-in c
-
-fill-column-requires : tie.Need-fill-column-requires Inv-loop μ-loop
-fill-column-requires c κs =
-    let s = c .before .before .before .before .before .before .before in
-    rw (lent (c .before)) (s .pre .0, (s .pre .1 .0, (s .pre .1 .1 .0 .0, ((c .before .loop-test .taken, s .pre .1 .1 .1 .0), s .pre .1 .1 .1 .1))))
-
-add-d : tie.Need-add-d Inv-loop μ-loop
-add-d c = omega arith
-
-loop-less : tie.Need-loop-less Inv-loop μ-loop
-loop-less c = omega arith
+fill-requires : tie.Need-fill-requires Inv-loop μ-loop
+fill-requires c κs =
+    let h = c .before .loop-test .taken in
+    (c .before .before .before .before .before .before .before .pre .0, (rw (column-length (c .before .before .loop .inv .1) h) (c .before .before .before .before .before .before .before .pre .1 .0), h))
 
 loop-again : tie.Need-loop-again Inv-loop μ-loop
 loop-again c =
-    let l = c .before .before .before .before .before .loop in
-    let s = c .before .before .before .before .before .before .before .before .before .before in
-    let a = s .args in
-    let i = c .before .before .before .before in
-    let e : l .d * a .count + a .count - l .d * a .count ≡ a .count = omega arith in
-    let given : ℕ → ℕ → ℕ → Float = λ k. componentIn binary64 (gridAxes binary64 (a .linearize-extrapolation) (axesOf (take (a .axis-count) (a .counts)) (now (a .axes)))) (now (a .vals)) k (now (a .queries)) in
-    let column = c .before .before .fill-column .last .1 .1 .1 .1 .1 .1 .1 .1 .1 .0 in
-    let filled = subst (λ (k : ℕ). Filled (given k (l .d)) (a .stop) (take (l .d * a .count + a .count - l .d * a .count) (drop (l .d * a .count) (l .out))) column) (lent i) (c .before .before .fill-column .ensures) in
-    let turn = columns-turn (given (a .count)) (a .count) (a .stop) (now (a .out)) (a .axis-count) (l .d) _ (l .out) column (i .loop-test .taken) (s .pre .1 .1 .1 .0) e (s .pre .1 .1 .0 .1) (l .inv .4) filled in
-    (omega arith, l .inv .1, turn .same-length ∙ s .pre .1 .1 .0 .1, turn .same-length, turn)
+    let fill = c .before .before .fill in
+    let next = columns-next (c .before .before .before .before .before .loop .inv .1) (c .before .before .before .before .loop-test .taken) _ (fill .last .1 .1 .1 .1 .1 .1 .1 .1 .0) (fill .ensures .0) (fill .ensures .1) in
+    (next .to .same-length, next)
 
 same-length : tie.Need-same-length Inv-loop μ-loop
-same-length c = c .before .loop .inv .3
+same-length c = c .before .loop .inv .0
 
 returns : tie.Need-returns Inv-loop μ-loop
 returns c =
-    let l = c .before .loop in
-    let a = c .before .before .before .before .before .before .args in
-    columns-all _ _ _ _ (a .axis-count) (l .d) (l .out) (omega arith) (l .inv .4)
+    let s = c .before .before .before .before .before .before in
+    columns-end (c .before .loop .inv .1) (fit binary64 (s .args .linearize-extrapolation) (s .good .1 .0 .1 .0 .1) (taken-of (s .pre .0)) .some) (c .loop-test .left)
 
 pub fill-columns-spec : {M : Type 1} → statement M
 fill-columns-spec =
@@ -107,13 +61,13 @@ fill-columns-spec =
     loop-holds
     mul-at
     add-end
-    mul-fill-column
-    sub-fill-column
-    part-fill-column-start
-    part-fill-column-end
-    fill-column-requires
-    add-d
-    loop-less
+    mul-fill
+    (λ c. omega arith)
+    (λ c. omega arith)
+    part-fill-end
+    fill-requires
+    (λ c. omega arith)
+    (λ c. omega arith)
     loop-again
     same-length
     returns)

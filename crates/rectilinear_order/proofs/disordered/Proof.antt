@@ -1,9 +1,10 @@
--- `disordered` meets its contract. Assumes nothing.
+-- `disordered`: every pair of neighbours before i rises; the first that does not is the disorder.
 use mathlib.Core.Path.{sym}
 use Prim.Native.Nat.{ℕ, suc, _-_, _≤_, _<_}
 use native.Mathlib.Omega.{arith}
 use lib.ListN.{length}
 use Rattle.rectilinear_order.proofs.Order.{Up, up-more, falls-at, rises}
+use borrow.Author.Needs.{needs}
 use Rattle.rectilinear_order.proofs.disordered.Statement.{statement}
 use Rattle.rectilinear_order.proofs.disordered.Tie as tie
 
@@ -15,27 +16,6 @@ abbrev μ-loop : tie.MeasureT-loop
 
 loop-holds : tie.Need-loop-holds Inv-loop μ-loop
 loop-holds c = (omega arith, omega arith, λ k h. absurd (omega arith))
-
-sub-before : tie.Need-sub-before Inv-loop μ-loop
-sub-before c = omega arith
-
-mul-before : tie.Need-mul-before Inv-loop μ-loop
-mul-before c = omega arith
-
-shared-slice-read-before : tie.Need-shared-slice-read-before Inv-loop μ-loop
-shared-slice-read-before c = omega arith
-
-mul-entry : tie.Need-mul-entry Inv-loop μ-loop
-mul-entry c = omega arith
-
-shared-slice-read-entry : tie.Need-shared-slice-read-entry Inv-loop μ-loop
-shared-slice-read-entry c = omega arith
-
-add-i : tie.Need-add-i Inv-loop μ-loop
-add-i c = omega arith
-
-loop-less : tie.Need-loop-less Inv-loop μ-loop
-loop-less c = omega arith
 
 loop-again : tie.Need-loop-again Inv-loop μ-loop
 loop-again c =
@@ -58,17 +38,5 @@ returns-2 c =
 pub disordered-spec : {M : Type 1} → statement M
 disordered-spec =
     tie.close
-    (tie.spec
-    Inv-loop
-    μ-loop
-    loop-holds
-    sub-before
-    mul-before
-    shared-slice-read-before
-    mul-entry
-    shared-slice-read-entry
-    add-i
-    loop-less
-    loop-again
-    returns
-    returns-2)
+    (tie.spec Inv-loop μ-loop loop-holds (search needs) (search needs) (search needs) (search needs) (search needs) (search needs)
+    (search needs) loop-again returns returns-2)

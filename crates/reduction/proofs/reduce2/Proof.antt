@@ -1,46 +1,10 @@
--- `reduce2` meets its contract. Assumes nothing.
+-- `reduce2`: one step of the reduction, over axis 1.
 use lib.Ieee.{binary64}
 use native.Mathlib.Omega.{arith}
 use Rattle.reduction.proofs.Reduction.{step-is}
 use borrow.Author.Needs.{needs}
 use Rattle.reduction.proofs.reduce2.Statement.{statement}
 use Rattle.reduction.proofs.reduce2.Tie as tie
-
-array-read-s1 : tie.Need-array-read-s1
-array-read-s1 c = search needs
-
-reduce1-requires : tie.Need-reduce1-requires
-reduce1-requires c κs = search needs
-
-add-reduce1 : tie.Need-add-reduce1
-add-reduce1 c = search needs
-
-reduce1-requires-2 : tie.Need-reduce1-requires-2
-reduce1-requires-2 c κs = search needs
-
-mul-reduce1 : tie.Need-mul-reduce1
-mul-reduce1 c = search needs
-
-add-reduce1-2 : tie.Need-add-reduce1-2
-add-reduce1-2 c = search needs
-
-reduce1-requires-3 : tie.Need-reduce1-requires-3
-reduce1-requires-3 c κs = search needs
-
-mul-reduce1-2 : tie.Need-mul-reduce1-2
-mul-reduce1-2 c = search needs
-
-add-reduce1-3 : tie.Need-add-reduce1-3
-add-reduce1-3 c = search needs
-
-reduce1-requires-4 : tie.Need-reduce1-requires-4
-reduce1-requires-4 c κs = search needs
-
-array-copy-out-dot4 : tie.Need-array-copy-out-dot4
-array-copy-out-dot4 c = search needs
-
-dot4-requires : tie.Need-dot4-requires
-dot4-requires c κs = search needs
 
 returns : tie.Need-returns
 returns c =
@@ -54,16 +18,16 @@ pub reduce2-spec : {M : Type 1} → statement M
 reduce2-spec =
     tie.close
     (tie.spec
-    array-read-s1
-    reduce1-requires
-    add-reduce1
-    reduce1-requires-2
-    mul-reduce1
-    add-reduce1-2
-    reduce1-requires-3
-    mul-reduce1-2
-    add-reduce1-3
-    reduce1-requires-4
-    array-copy-out-dot4
-    dot4-requires
+    (λ c. search needs)
+    (λ c κs. search needs)
+    (λ c. search needs)
+    (λ c κs. search needs)
+    (λ c. search needs)
+    (λ c. search needs)
+    (λ c κs. search needs)
+    (λ c. search needs)
+    (λ c. search needs)
+    (λ c κs. search needs)
+    (λ c. search needs)
+    (λ c κs. search needs)
     returns)

@@ -1,6 +1,6 @@
--- `strides` meets its contract. Assumes nothing.
+-- `strides`: from the last axis down, each stride is the product of the counts after it.
 use Rattle.multicubic.proofs.Sizes.{each-within, grows, small}
-use Rattle.reduction.proofs.Offsets.{strides-here, stride-next}
+use Rattle.reduction.proofs.Spacing.{strides-here, stride-next}
 use borrow.Author.Needs.{needs}
 use Prim.Native.Nat.{_≤_, _+_, _-_, _^_}
 use mathlib.Core.Path.{_≡_, refl}
@@ -26,21 +26,6 @@ loop-holds c =
     let z : n - n ≡ 0 = omega arith in
     (search needs, c .pre .0, c .good .1 .0 .1 .0 .1, refl, c .pre .1, rw z (search needs), rw (slice-empty n (c .args .t2)), rw (slice-empty n (c .args .t2), slice-empty))
 
-sub-i : tie.Need-sub-i Inv-loop μ-loop
-sub-i c = omega arith
-
-mul-strides : tie.Need-mul-strides Inv-loop μ-loop
-mul-strides c = omega arith
-
-array-write-strides : tie.Need-array-write-strides Inv-loop μ-loop
-array-write-strides c = omega arith
-
-mul-count : tie.Need-mul-count Inv-loop μ-loop
-mul-count c = omega arith
-
-array-read-count : tie.Need-array-read-count Inv-loop μ-loop
-array-read-count c = omega arith
-
 mul-stride : tie.Need-mul-stride Inv-loop μ-loop
 mul-stride c =
     let l = c .before .loop in
@@ -48,9 +33,6 @@ mul-stride c =
     let i = l .i - 1 in
     let w = each-within (a .t2) (a .n) i (omega arith) (omega arith) (l .inv .4) in
     omega (arith, small _ (a .n - l .i + 1) (omega arith) (grows (l .stride) _ (a .n - l .i) (l .inv .5) w))
-
-loop-less : tie.Need-loop-less Inv-loop μ-loop
-loop-less c = omega arith
 
 loop-again : tie.Need-loop-again Inv-loop μ-loop
 loop-again c =
@@ -74,12 +56,12 @@ strides-spec =
     Inv-loop
     μ-loop
     loop-holds
-    sub-i
-    mul-strides
-    array-write-strides
-    mul-count
-    array-read-count
+    (λ c. omega arith)
+    (λ c. omega arith)
+    (λ c. omega arith)
+    (λ c. omega arith)
+    (λ c. omega arith)
     mul-stride
-    loop-less
+    (λ c. omega arith)
     loop-again
     returns)

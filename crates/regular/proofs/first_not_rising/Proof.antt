@@ -1,4 +1,4 @@
--- `first_not_rising` meets its contract. Assumes nothing.
+-- `first_not_rising`: each turn passes an axis that rises, or names it.
 use Prim.Native.Nat.{_≤_, _-_}
 use mathlib.Core.Path.{_≡_, _∙_, sym, refl, ap}
 use mathlib.Core.Bool.{not}
@@ -9,8 +9,8 @@ use lib.Ieee.{ofBits}
 use borrow.Author.Needs.{needs}
 use Rattle.multicubic.specs.Grid.{lowest}
 use Rattle.multicubic.proofs.Sizes.{fault-here, fault-later}
-use Rattle.regular.specs.Grid.{notRising}
-use Rattle.regular.proofs.Calls.{noAxis}
+use Rattle.regular_query.specs.Grid.{notRising}
+use Rattle.regular_query.proofs.Calls.{noAxis}
 use Rattle.regular.proofs.first_not_rising.Statement.{statement}
 use Rattle.regular.proofs.first_not_rising.Tie as tie
 
@@ -22,18 +22,6 @@ abbrev μ-loop : tie.MeasureT-loop
 
 loop-holds : tie.Need-loop-holds Inv-loop μ-loop
 loop-holds c = (search needs, c .pre, c .good .1 .0 .1 .0 .1, refl)
-
-mul-step : tie.Need-mul-step Inv-loop μ-loop
-mul-step c = omega arith
-
-element-copy-out-step : tie.Need-element-copy-out-step Inv-loop μ-loop
-element-copy-out-step c = omega arith
-
-add-i : tie.Need-add-i Inv-loop μ-loop
-add-i c = omega arith
-
-loop-less : tie.Need-loop-less Inv-loop μ-loop
-loop-less c = omega arith
 
 loop-again : tie.Need-loop-again Inv-loop μ-loop
 unfolding ofBits
@@ -63,10 +51,10 @@ first-not-rising-spec =
     Inv-loop
     μ-loop
     loop-holds
-    mul-step
-    element-copy-out-step
-    add-i
-    loop-less
+    (λ c. omega arith)
+    (λ c. omega arith)
+    (λ c. omega arith)
+    (λ c. omega arith)
     loop-again
     returns
     returns-2)

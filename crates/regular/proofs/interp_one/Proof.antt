@@ -1,76 +1,50 @@
--- `interp_one` meets its contract. Assumes nothing.
-use mathlib.Core.Path.{_∙_, sym, ap}
-use mathlib.Core.List.{List}
-use Prim.Native.Nat.{ℕ}
-use lib.ListN.{length, take}
+-- `interp_one`: the grid's refusal, or what is asked of the only query of its batch.
+use mathlib.Core.Path.{sym, _∙_}
+use native.Mathlib.Omega.{arith}
+use lib.ListN.{length}
 use lib.Ieee.{binary64}
 use denote.Ref.{now}
-use Rattle.reduction.specs.Value.{stridesOf}
-use Rattle.grid.specs.Query.{at}
-use Rattle.grid.proofs.Evaluating.{answer-refused, answer-value, answer-placed, answer-taken}
-use Rattle.regular.specs.Grid.{gridOf}
-use Rattle.regular.proofs.Sizes.{passed}
+use Rattle.grid.proofs.Singles.{value-refused, value-single}
+use Rattle.regular_query.specs.Grid.{gridOf}
+use Rattle.regular_query.proofs.Locating.{spaceable, ready-by}
 use borrow.Author.Needs.{needs}
 use Rattle.regular.proofs.interp_one.Statement.{statement}
 use Rattle.regular.proofs.interp_one.Tie as tie
 
-get-loc-requires : tie.Need-get-loc-requires
-get-loc-requires c κs = search needs
-
-enum-known-outcome : tie.Need-enum-known-outcome
-enum-known-outcome c = search needs
-
-enum-told : tie.Need-enum-told
-enum-told c = search needs
-
-counts-of-requires : tie.Need-counts-of-requires
-counts-of-requires c κs = search needs
-
 strides-requires : tie.Need-strides-requires
 strides-requires c κs =
-    let s = c .before .before .before .before in
-    let a = s .before .before .args in
-    let g = gridOf binary64 (a .axis-count) (a .axes) (now (a .vals)) (a .mode) in
-    let e = sym (s .get-loc .ensures .0 (a .mode)) ∙ c .before .before .enum-told .given .1 in
-    let p = passed (a .axis-count) (a .axes) (length (now (a .vals))) (answer-taken g (at (a .x)) e) in
-    (p .few, rw (c .counts-of .ensures) (p .within))
+    let a = c .before .before .before .before .before .before .args in
+    spaceable (a .axis-count) (a .axes) (length (now (a .vals))) (sym (c .before .before .before .before .new .ensures) ∙ c .before .before .enum-told2 .given .1) _ (c .counts-of .ensures)
 
-linearize-extrapolation-requires : tie.Need-linearize-extrapolation-requires
-linearize-extrapolation-requires c κs = search needs
-
-value-at-requires : tie.Need-value-at-requires
-value-at-requires c κs =
-    let s = c .before .before .before .before .before .before in
-    let a = s .before .before .args in
-    let g = gridOf binary64 (a .axis-count) (a .axes) (now (a .vals)) (a .mode) in
-    let e = sym (s .get-loc .ensures .0 (a .mode)) ∙ c .before .before .before .before .enum-told .given .1 in
-    let on = answer-placed g (at (a .x)) _ e (s .get-loc .ensures .1 (a .mode)) in
-    (answer-taken g (at (a .x)) e, (c .before .strides .ensures ∙ ap (λ (cs : List ℕ). stridesOf (take (a .axis-count) cs)) (c .before .before .counts-of .ensures), rw (c .linearize-extrapolation .ensures) on))
+answer-at-requires : tie.Need-answer-at-requires
+answer-at-requires c κs =
+    let a = c .before .before .before .before .before .before .before .before .args in
+    let taken = sym (c .before .before .before .before .before .before .new .ensures) ∙ c .before .before .before .before .enum-told2 .given .1 in
+    let few = spaceable (a .axis-count) (a .axes) (length (now (a .vals))) taken _ (c .before .before .counts-of .ensures) .0 in
+    (ready-by (a .axis-count) (a .axes) (length (now (a .vals))) taken _ (c .before .before .counts-of .ensures) _ (c .before .strides .ensures), ((omega arith, omega arith), tt))
 
 returns : tie.Need-returns
 returns c =
-    let s = c .before .before .before .before in
-    let a = s .before .args in
-    answer-refused binary64 (gridOf binary64 (a .axis-count) (a .axes) (now (a .vals)) (a .mode)) (at (a .x)) _ _ _ (sym (c .before .before .before .get-loc .ensures .0 (a .mode)) ∙ c .before .outcome .given .1)
+    let a = c .before .before .before .before .before .args in
+    c .answered .ensures ∙ value-refused binary64 (gridOf binary64 (a .axis-count) (a .axes) (now (a .vals)) (a .mode)) (a .t5) _ _ (c .before .before .before .new .ensures) (c .before .enum-told .given .1)
 
 returns-2 : tie.Need-returns-2
 returns-2 c =
-    let s = c .before .before .before .before .before .before .before in
-    let a = s .before .before .args in
-    let g = gridOf binary64 (a .axis-count) (a .axes) (now (a .vals)) (a .mode) in
-    let e = sym (s .get-loc .ensures .0 (a .mode)) ∙ c .before .before .before .before .before .enum-told .given .1 in
-    answer-value binary64 g (at (a .x)) _ e (c .value-at .ensures ∙ rw (c .before .linearize-extrapolation .ensures))
+    let a = c .before .before .before .before .before .before .before .before .before .args in
+    c .answer-at .ensures ∙ rw (c .before .before .before .before .linearize-extrapolation .ensures) (value-single binary64 (gridOf binary64 (a .axis-count) (a .axes) (now (a .vals)) (a .mode)) (a .t5) (sym (c .before .before .before .before .before .before .before .new .ensures) ∙ c .before .before .before .before .before .enum-told2 .given .1))
 
 pub interp-one-spec : {M : Type 1} → statement M
 interp-one-spec =
     tie.close
     (tie.spec
-    get-loc-requires
-    enum-known-outcome
-    enum-told
-    counts-of-requires
+    (λ c κs. search needs)
+    (λ c. search needs)
+    (λ c κs. search needs)
+    (λ c. search needs)
+    (λ c κs. search needs)
+    (λ c κs. search needs)
     strides-requires
-    linearize-extrapolation-requires
-    value-at-requires
+    (λ c. search needs)
+    answer-at-requires
     returns
     returns-2)

@@ -1,112 +1,73 @@
--- `locate` meets its contract. Assumes nothing.
-use Prim.Native.Nat.{_≤_, _-_}
+-- `locate`: each turn keeps one place more.
+use Prim.Native.Nat.{_≤_, _<_, _-_}
 use mathlib.Core.Path.{_≡_, _∙_, sym, refl, ap}
 use mathlib.Core.Bool.{Bool, true}
 use native.Mathlib.Omega.{arith}
-use lib.ListN.{length, getD, take, length-set}
+use lib.ListN.{length, getD, length-set}
 use lib.Ieee.{nan, binary64}
+use Rattle.multicubic.specs.declared.Loc.{Loc}
+use Rattle.grid.specs.Query.{at, GridAxis, noAxis as noGridAxis}
+use Rattle.grid.proofs.Locating.{Placing, placing-none, placing-turn, placing-all, so-far-unplaceable}
+use Rattle.regular_query.specs.Grid.{gridAxis, axesIn}
+use Rattle.regular_query.specs.Internal.{Taken}
+use Rattle.regular_query.proofs.Calls.{noAxis}
+use Rattle.regular_query.proofs.Locating.{fit, long-at, axis-is}
 use borrow.Author.Needs.{needs}
-use Rattle.grid.specs.Query.{at}
-use Rattle.grid.proofs.Locating.{SoFar, so-far-none, so-far-placed, so-far-unplaceable, so-far-all}
-use Rattle.regular.specs.Grid.{Taken, gridAxes}
-use Rattle.regular.proofs.Locating.{fit, long-at, axis-is}
 use Rattle.regular.proofs.locate.Statement.{statement}
 use Rattle.regular.proofs.locate.Tie as tie
 
 abbrev Inv-loop : tie.InvT-loop
-Inv-loop axis-count query axes x places₀ i₀ places i =
+Inv-loop axis-count axes x places₀ i₀ places i =
     (i ≤ axis-count)
     × (axis-count ≤ 4)
     × (length axes ≡ 4)
     × (length x ≡ 4)
     × (length places ≡ 4)
     × Taken axis-count axes
-    × ((straight : Bool) → SoFar (gridAxes binary64 straight (take axis-count axes)) (at x) i places)
+    × ((straight : Bool) → Placing (axesIn binary64 straight axis-count axes) (at x) i places)
 
 abbrev μ-loop : tie.MeasureT-loop
-μ-loop axis-count query axes x places₀ i₀ places i = axis-count - i
+μ-loop axis-count axes x places₀ i₀ places i = axis-count - i
 
-nowhere-requires : tie.Need-nowhere-requires Inv-loop μ-loop
-nowhere-requires c κs = search needs
+-- the axis in hand is the grid's
+module _ (c : tie.At-loop Inv-loop μ-loop) (h : c .loop .i < c .before .before .args .axis-count) (straight : Bool) where
+  inside : c .loop .i < length (axesIn binary64 straight (c .before .before .args .axis-count) (c .before .before .args .t2))
+  inside = rw (fit binary64 straight (c .loop .inv .2) (c .loop .inv .5) .counted) h
+
+  loc-is : (l : Loc) → l ≡ gridAxis binary64 straight (getD (c .before .before .args .t2) (c .loop .i) noAxis) .loc (getD (c .before .before .args .t3) (c .loop .i) nan) → l ≡ getD (axesIn binary64 straight (c .before .before .args .axis-count) (c .before .before .args .t2)) (c .loop .i) noGridAxis .loc (at (c .before .before .args .t3) (c .loop .i))
+  loc-is l e = e ∙ ap (λ (g : GridAxis). g .loc (getD (c .before .before .args .t3) (c .loop .i) nan)) (axis-is binary64 straight (c .loop .inv .2) (c .loop .inv .5) (c .loop .i) h)
 
 loop-holds : tie.Need-loop-holds Inv-loop μ-loop
 loop-holds c =
     let s = c .before in
     let e = c .nowhere .ensures in
     let four = s .good .1 .0 .1 .0 .1 in
-    (search needs, fit binary64 true (s .args .axis-count) (s .args .t2) four (s .pre) .few, four, s .good .1 .1 .0 .1 .0 .1, ap length e, s .pre, λ straight. so-far-none _ _ _ e)
-
-mul-get-loc : tie.Need-mul-get-loc Inv-loop μ-loop
-mul-get-loc c = omega arith
-
-array-copy-out-get-loc : tie.Need-array-copy-out-get-loc Inv-loop μ-loop
-array-copy-out-get-loc c = omega arith
-
-mul-get-loc-2 : tie.Need-mul-get-loc-2 Inv-loop μ-loop
-mul-get-loc-2 c = omega arith
-
-array-read-get-loc : tie.Need-array-read-get-loc Inv-loop μ-loop
-array-read-get-loc c = omega arith
+    (search needs, fit binary64 true four (s .pre) .few, four, s .good .1 .1 .0 .1 .0 .1, ap length e, s .pre, λ straight. placing-none _ _ _ e)
 
 get-loc-requires : tie.Need-get-loc-requires Inv-loop μ-loop
 get-loc-requires c κs =
-    let l = c .before .before .loop in
-    let a = c .before .before .before .before .args in
-    long-at binary64 true (a .axis-count) (a .t2) (l .inv .2) (l .inv .5) (l .i) (c .before .loop-test .taken)
-
-enum-told : tie.Need-enum-told Inv-loop μ-loop
-enum-told c = search needs
-
-nowhere-requires-2 : tie.Need-nowhere-requires-2 Inv-loop μ-loop
-nowhere-requires-2 c κs = search needs
+    let l = c .before .before in
+    long-at binary64 true (l .loop .inv .2) (l .loop .inv .5) (l .loop .i) (c .before .loop-test .taken)
 
 returns : tie.Need-returns Inv-loop μ-loop
 returns c straight =
-    let l = c .before .before .before .before .before .before .loop in
-    let a = c .before .before .before .before .before .before .before .before .args in
-    let h = c .before .before .before .before .before .loop-test .taken in
-    let gs = gridAxes binary64 straight (take (a .axis-count) (a .t2)) in
-    let loc = sym (c .before .enum-told .given .1) ∙ c .before .before .before .get-loc .ensures ∙ ap (λ g. g .loc (getD (a .t3) (l .i) nan)) (sym (axis-is binary64 straight (a .axis-count) (a .t2) (l .inv .2) (l .inv .5) (l .i) h)) in
-    let e = so-far-unplaceable gs (at (a .t3)) (l .places) (l .i) (l .inv .6 straight) (rw (fit binary64 straight (a .axis-count) (a .t2) (l .inv .2) (l .inv .5) .counted) h) loc in
-    (rw e refl, c .nowhere2 .ensures ∙ rw e refl)
-
-enum-known-loc : tie.Need-enum-known-loc Inv-loop μ-loop
-enum-known-loc c = search needs
-
-mul-places : tie.Need-mul-places Inv-loop μ-loop
-mul-places c = omega arith
-
-array-set-from-places : tie.Need-array-set-from-places Inv-loop μ-loop
-array-set-from-places c = omega arith
-
-add-i : tie.Need-add-i Inv-loop μ-loop
-add-i c = omega arith
-
-loop-less : tie.Need-loop-less Inv-loop μ-loop
-loop-less c = omega arith
+    let l = c .before .before .before .before .before .before .before in
+    let h = c .before .before .before .before .before .before .loop-test .taken in
+    let e = so-far-unplaceable _ _ (l .loop .i) (l .loop .inv .6 straight .so-far) (inside l h straight) (loc-is l h straight _ (sym (c .before .before .enum-told .given .1) ∙ c .before .before .before .before .get-loc .ensures)) in
+    (c .before .refused-query .ensures ∙ rw e refl, c .nowhere2 .ensures ∙ rw e refl)
 
 loop-again : tie.Need-loop-again Inv-loop μ-loop
 loop-again c =
-    let l = c .before .before .before .before .before .before .loop in
-    let a = c .before .before .before .before .before .before .before .before .args in
+    let l = c .before .before .before .before .before .before in
     let h = c .before .before .before .before .before .loop-test .taken in
-    let loc : (straight : Bool) → _ =
-    λ straight. sym (c .before .loc .given .1) ∙ c .before .before .before .get-loc .ensures ∙ ap (λ g. g .loc (getD (a .t3) (l .i) nan)) (sym (axis-is binary64 straight (a .axis-count) (a .t2) (l .inv .2) (l .inv .5) (l .i) h)) in (
-      omega arith,
-      l .inv .1,
-      l .inv .2,
-      l .inv .3,
-      rw length-set (l .inv .4),
-      l .inv .5,
-      λ straight. so-far-placed (gridAxes binary64 straight (take (a .axis-count) (a .t2))) (at (a .t3)) (l .places) (l .i) (l .inv .6 straight) (rw (fit binary64 straight (a .axis-count) (a .t2) (l .inv .2) (l .inv .5) .counted) h) _ (omega arith) (loc straight),
-    )
+    let loc = sym (c .before .loc .given .1) ∙ c .before .before .before .get-loc .ensures in
+    (omega arith, l .loop .inv .1, l .loop .inv .2, l .loop .inv .3, rw length-set (l .loop .inv .4), l .loop .inv .5, λ straight. placing-turn _ _ _ (l .loop .i) (l .loop .inv .6 straight) (inside l h straight) (omega arith) _ (loc-is l h straight _ loc))
 
 returns-2 : tie.Need-returns-2 Inv-loop μ-loop
 returns-2 c straight =
-    let l = c .before .loop in
-    let a = c .before .before .before .args in
-    let e : l .i ≡ a .axis-count = omega arith in
-    so-far-all (gridAxes binary64 straight (take (a .axis-count) (a .t2))) (at (a .t3)) (l .places) (l .i) (l .inv .6 straight) (e ∙ sym (fit binary64 straight (a .axis-count) (a .t2) (l .inv .2) (l .inv .5) .counted)) (a .query)
+    let l = c .before in
+    let e : l .loop .i ≡ c .before .before .before .args .axis-count = omega arith in
+    placing-all _ _ _ (l .loop .i) (l .loop .inv .6 straight) (e ∙ sym (fit binary64 straight (l .loop .inv .2) (l .loop .inv .5) .counted)) 0
 
 pub locate-spec : {M : Type 1} → statement M
 locate-spec =
@@ -114,20 +75,21 @@ locate-spec =
     (tie.spec
     Inv-loop
     μ-loop
-    nowhere-requires
+    (λ c κs. search needs)
     loop-holds
-    mul-get-loc
-    array-copy-out-get-loc
-    mul-get-loc-2
-    array-read-get-loc
+    (λ c. omega arith)
+    (λ c. omega arith)
+    (λ c. omega arith)
+    (λ c. omega arith)
     get-loc-requires
-    enum-told
-    nowhere-requires-2
+    (λ c. search needs)
+    (λ c. search needs)
+    (λ c κs. search needs)
+    (λ c κs. search needs)
     returns
-    enum-known-loc
-    mul-places
-    array-set-from-places
-    add-i
-    loop-less
+    (λ c. omega arith)
+    (λ c. omega arith)
+    (λ c. omega arith)
+    (λ c. omega arith)
     loop-again
     returns-2)

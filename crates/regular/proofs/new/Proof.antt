@@ -1,43 +1,22 @@
--- `new` meets its contract. Assumes nothing.
+-- `new`: the refusal of checks 1 to 4, or check 5.
 use mathlib.Core.Path.{refl, sym, _∙_}
 use Rattle.multicubic.proofs.Passed.{accepted}
 use borrow.Author.Needs.{needs}
 use Rattle.regular.proofs.new.Statement.{statement}
 use Rattle.regular.proofs.new.Tie as tie
 
-counts-of-requires : tie.Need-counts-of-requires
-counts-of-requires c κs = search needs
-
-check-sizes-requires : tie.Need-check-sizes-requires
-check-sizes-requires c κs = search needs
-
-enum-known-sizes : tie.Need-enum-known-sizes
-enum-known-sizes c = search needs
-
-enum-told : tie.Need-enum-told
-enum-told c = search needs
-
 first-not-rising-requires : tie.Need-first-not-rising-requires
-first-not-rising-requires c κs = accepted _ _ _ _ (sym (c .before .before .check-sizes .ensures) ∙ c .enum-told .given .1) .few
+first-not-rising-requires c κs = accepted _ _ _ _ (sym (c .before .before .check-sizes .ensures) ∙ c .enum-told2 .given .1) .few
 
 returns : tie.Need-returns
 returns c =
-    let s = c .before .before .before in
-    rw (← s .before .counts-of .ensures, ← s .check-sizes .ensures, c .before .sizes .given .1) refl
+    let s = c .before .before in
+    rw (← s .before .counts-of .ensures, ← s .check-sizes .ensures, c .enum-told .given .1) refl
 
 returns-2 : tie.Need-returns-2
 returns-2 c =
     let s = c .before .before .before in
-    rw (← s .before .counts-of .ensures, ← s .check-sizes .ensures, c .before .enum-told .given .1) (c .first-not-rising .ensures)
+    rw (← s .before .counts-of .ensures, ← s .check-sizes .ensures, c .before .enum-told2 .given .1) (c .first-not-rising .ensures)
 
 pub new-spec : {M : Type 1} → statement M
-new-spec =
-    tie.close
-    (tie.spec
-    counts-of-requires
-    check-sizes-requires
-    enum-known-sizes
-    enum-told
-    first-not-rising-requires
-    returns
-    returns-2)
+new-spec = tie.close (tie.spec (λ c κs. search needs) (λ c κs. search needs) (λ c. search needs) (λ c. search needs) first-not-rising-requires returns returns-2)

@@ -1,20 +1,17 @@
--- `derivatives_at` meets its contract. Assumes nothing.
-use mathlib.Core.Path.{_∙_}
-use lib.Ieee.{ofBits}
+-- `derivatives_at`: the class's derivative row at t, scaled by the rounded 1 / step.
+use mathlib.Core.Path.{_∙_, ap}
+use lib.Ieee.{Float, binary64, ofBits, div}
+use Rattle.ieee.specs.Numbers.{one}
+use Rattle.regular_axis.specs.Weights.{derivativesOf}
 use borrow.Author.Needs.{needs}
 use Rattle.regular_axis.proofs.derivatives_at.Statement.{statement}
 use Rattle.regular_axis.proofs.derivatives_at.Tie as tie
 
-local-t-requires : tie.Need-local-t-requires
-local-t-requires c κs = search needs
-
-interp-weight-derivatives-requires : tie.Need-interp-weight-derivatives-requires
-interp-weight-derivatives-requires c κs = search needs
-
 returns : tie.Need-returns
 unfolding ofBits
-returns c = c .interp-weight-derivatives .ensures ∙ rw (c .before .before .local-t .ensures)
+returns c =
+    let a = c .before .before .before .args in
+    c .interp-weight-derivatives .ensures ∙ ap (λ (t : Float). derivativesOf binary64 (a .place .class) (a .linearize-extrapolation) t (div binary64 one (a .axis .step))) (c .before .before .local-t .ensures)
 
 pub derivatives-at-spec : {M : Type 1} → statement M
-derivatives-at-spec =
-    tie.close (tie.spec local-t-requires interp-weight-derivatives-requires returns)
+derivatives-at-spec = tie.close (tie.spec (search needs) (search needs) returns)

@@ -1,4 +1,4 @@
--- `end_weight_derivatives` meets its contract. Assumes nothing.
+-- `end_weight_derivatives`: the slope of the straight line, or the cubic end from the derivative of the basis.
 use mathlib.Core.Path.{refl}
 use mathlib.Core.Path.{ap, _∙_}
 use lib.Ieee.{binary64, ofBits}
@@ -6,12 +6,6 @@ use Rattle.regular_axis.specs.Weights.{cubicEnd, straightEndSlope}
 use borrow.Author.Needs.{needs}
 use Rattle.regular_axis.proofs.end_weight_derivatives.Statement.{statement}
 use Rattle.regular_axis.proofs.end_weight_derivatives.Tie as tie
-
-hermite-basis-derivative-requires : tie.Need-hermite-basis-derivative-requires
-hermite-basis-derivative-requires c κs = search needs
-
-cubic-end-requires : tie.Need-cubic-end-requires
-cubic-end-requires c κs = search needs
 
 returns : tie.Need-returns
 unfolding straightEndSlope ofBits
@@ -21,5 +15,4 @@ returns-2 : tie.Need-returns-2
 returns-2 c = rw (c .before .before .if1 .left) (c .cubic-end .ensures ∙ ap (cubicEnd binary64) (c .before .hermite-basis-derivative .ensures))
 
 pub end-weight-derivatives-spec : {M : Type 1} → statement M
-end-weight-derivatives-spec =
-    tie.close (tie.spec hermite-basis-derivative-requires cubic-end-requires returns returns-2)
+end-weight-derivatives-spec = tie.close (tie.spec (search needs) (search needs) returns returns-2)

@@ -1,4 +1,4 @@
--- `end_weights` meets its contract. Assumes nothing.
+-- `end_weights`: the straight line, or the cubic end from the basis.
 use mathlib.Core.Path.{refl}
 use mathlib.Core.Path.{ap, _∙_}
 use lib.Ieee.{binary64, ofBits}
@@ -6,12 +6,6 @@ use Rattle.regular_axis.specs.Weights.{cubicEnd, straightEnd}
 use borrow.Author.Needs.{needs}
 use Rattle.regular_axis.proofs.end_weights.Statement.{statement}
 use Rattle.regular_axis.proofs.end_weights.Tie as tie
-
-hermite-basis-requires : tie.Need-hermite-basis-requires
-hermite-basis-requires c κs = search needs
-
-cubic-end-requires : tie.Need-cubic-end-requires
-cubic-end-requires c κs = search needs
 
 returns : tie.Need-returns
 unfolding straightEnd ofBits
@@ -21,4 +15,4 @@ returns-2 : tie.Need-returns-2
 returns-2 c = rw (c .before .before .if1 .left) (c .cubic-end .ensures ∙ ap (cubicEnd binary64) (c .before .hermite-basis .ensures))
 
 pub end-weights-spec : {M : Type 1} → statement M
-end-weights-spec = tie.close (tie.spec hermite-basis-requires cubic-end-requires returns returns-2)
+end-weights-spec = tie.close (tie.spec (search needs) (search needs) returns returns-2)

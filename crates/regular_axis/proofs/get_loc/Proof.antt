@@ -1,4 +1,4 @@
--- `get_loc` meets its contract: one law of proofs/Floor.antt for each return. Assumes nothing.
+-- `get_loc`: one law of proofs/Floor.antt for each return.
 use mathlib.Core.Path.{sym, ap, _∙_}
 use Prim.Native.Nat.{ℕ, _+_}
 use native.Mathlib.Omega.{arith}
@@ -21,9 +21,6 @@ add-place-from : tie.Need-add-place-from
 unfolding ofBits
 add-place-from c = omega (arith, c .truncating-f64-to-u64 .ensures, counted _ (c .before .before .if1 .taken) (c .before .if2 .taken) .small)
 
-place-from-requires : tie.Need-place-from-requires
-place-from-requires c κs = search needs
-
 returns : tie.Need-returns
 unfolding ofBits
 returns c =
@@ -35,9 +32,6 @@ returns-2 : tie.Need-returns-2
 unfolding ofBits
 returns-2 c = sym (loc-high _ _ (c .if2 .left))
 
-place-from-requires-2 : tie.Need-place-from-requires-2
-place-from-requires-2 c κs = search needs
-
 returns-3 : tie.Need-returns-3
 unfolding ofBits neg
 returns-3 c = ap At (c .place-from2 .ensures) ∙ sym (loc-negative _ _ (c .before .before .if1 .left) (c .before .if3 .taken))
@@ -47,14 +41,4 @@ unfolding ofBits neg
 returns-4 c = sym (loc-low _ _ (c .if3 .left))
 
 pub get-loc-spec : {M : Type 1} → statement M
-get-loc-spec =
-    tie.close
-    (tie.spec
-    truncating-f64-to-u64-requires
-    add-place-from
-    place-from-requires
-    returns
-    returns-2
-    place-from-requires-2
-    returns-3
-    returns-4)
+get-loc-spec = tie.close (tie.spec truncating-f64-to-u64-requires add-place-from (search needs) returns returns-2 (search needs) returns-3 returns-4)

@@ -1,20 +1,16 @@
--- `index_one_loc` meets its contract. Assumes nothing.
+-- `index_one_loc`: node origin + 1, whose casts keep it, since it is below 2^32.
+use mathlib.Core.Path.{ap}
 use native.Mathlib.Numerals.{add-one}
+use lib.Ieee.{binary64}
+use Rattle.regular_axis.specs.Weights.{node}
 use borrow.Author.Needs.{needs}
 use Rattle.regular_axis.proofs.index_one_loc.Statement.{statement}
 use Rattle.regular_axis.proofs.index_one_loc.Tie as tie
 
-add-result : tie.Need-add-result
-add-result c = search needs
-
-cast-result : tie.Need-cast-result
-cast-result c = search needs
-
-int-to-float-result : tie.Need-int-to-float-result
-int-to-float-result c = search needs
-
 returns : tie.Need-returns
-returns c = rw add-one
+returns c =
+    let a = c .before .before .before .args in
+    ap (node binary64 (a .axis .start) (a .axis .step)) (add-one (a .origin))
 
 pub index-one-loc-spec : {M : Type 1} → statement M
-index-one-loc-spec = tie.close (tie.spec add-result cast-result int-to-float-result returns)
+index-one-loc-spec = tie.close (tie.spec (search needs) (search needs) (search needs) returns)

@@ -1,4 +1,4 @@
--- `interp_weight_derivatives` meets its contract. Assumes nothing.
+-- `interp_weight_derivatives`: each class by the function of its arm, scaled.
 use mathlib.Core.Path.{ap, _∙_}
 use lib.Ieee.{binary64, neg, ofBits}
 use Rattle.interp_math.specs.Basis.{scaled}
@@ -6,54 +6,6 @@ use Rattle.regular_axis.specs.Weights.{interior}
 use borrow.Author.Needs.{needs}
 use Rattle.regular_axis.proofs.interp_weight_derivatives.Statement.{statement}
 use Rattle.regular_axis.proofs.interp_weight_derivatives.Tie as tie
-
-enum-told : tie.Need-enum-told
-enum-told c = search needs
-
-hermite-basis-derivative-requires : tie.Need-hermite-basis-derivative-requires
-hermite-basis-derivative-requires c κs = search needs
-
-interior-requires : tie.Need-interior-requires
-interior-requires c κs = search needs
-
-scale-weights-requires : tie.Need-scale-weights-requires
-scale-weights-requires c κs = search needs
-
-enum-told-2 : tie.Need-enum-told-2
-enum-told-2 c = search needs
-
-low-weight-derivatives-requires : tie.Need-low-weight-derivatives-requires
-low-weight-derivatives-requires c κs = search needs
-
-scale-weights-requires-2 : tie.Need-scale-weights-requires-2
-scale-weights-requires-2 c κs = search needs
-
-enum-told-3 : tie.Need-enum-told-3
-enum-told-3 c = search needs
-
-low-weight-derivatives-requires-2 : tie.Need-low-weight-derivatives-requires-2
-low-weight-derivatives-requires-2 c κs = search needs
-
-scale-weights-requires-3 : tie.Need-scale-weights-requires-3
-scale-weights-requires-3 c κs = search needs
-
-enum-told-4 : tie.Need-enum-told-4
-enum-told-4 c = search needs
-
-high-weight-derivatives-requires : tie.Need-high-weight-derivatives-requires
-high-weight-derivatives-requires c κs = search needs
-
-scale-weights-requires-4 : tie.Need-scale-weights-requires-4
-scale-weights-requires-4 c κs = search needs
-
-enum-told-5 : tie.Need-enum-told-5
-enum-told-5 c = search needs
-
-high-weight-derivatives-requires-2 : tie.Need-high-weight-derivatives-requires-2
-high-weight-derivatives-requires-2 c κs = search needs
-
-scale-weights-requires-5 : tie.Need-scale-weights-requires-5
-scale-weights-requires-5 c κs = search needs
 
 returns : tie.Need-returns
 returns c =
@@ -85,25 +37,6 @@ returns-5 c =
 pub interp-weight-derivatives-spec : {M : Type 1} → statement M
 interp-weight-derivatives-spec =
     tie.close
-    (tie.spec
-    enum-told
-    hermite-basis-derivative-requires
-    interior-requires
-    scale-weights-requires
-    enum-told-2
-    low-weight-derivatives-requires
-    scale-weights-requires-2
-    enum-told-3
-    low-weight-derivatives-requires-2
-    scale-weights-requires-3
-    enum-told-4
-    high-weight-derivatives-requires
-    scale-weights-requires-4
-    enum-told-5
-    high-weight-derivatives-requires-2
-    scale-weights-requires-5
-    returns
-    returns-2
-    returns-3
-    returns-4
-    returns-5)
+    (tie.spec (search needs) (search needs) (search needs) (search needs) (search needs) (search needs) (search needs) (search needs)
+    (search needs) (search needs) (search needs) (search needs) (search needs) (search needs) (search needs) (search needs) returns
+    returns-2 returns-3 returns-4 returns-5)

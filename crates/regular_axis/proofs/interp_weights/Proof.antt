@@ -1,43 +1,10 @@
--- `interp_weights` meets its contract. Assumes nothing.
+-- `interp_weights`: each class by the function of its arm.
 use mathlib.Core.Path.{ap, _∙_}
 use lib.Ieee.{binary64, ofBits}
 use Rattle.regular_axis.specs.Weights.{interior}
 use borrow.Author.Needs.{needs}
 use Rattle.regular_axis.proofs.interp_weights.Statement.{statement}
 use Rattle.regular_axis.proofs.interp_weights.Tie as tie
-
-enum-told : tie.Need-enum-told
-enum-told c = search needs
-
-hermite-basis-requires : tie.Need-hermite-basis-requires
-hermite-basis-requires c κs = search needs
-
-interior-requires : tie.Need-interior-requires
-interior-requires c κs = search needs
-
-enum-told-2 : tie.Need-enum-told-2
-enum-told-2 c = search needs
-
-low-weights-requires : tie.Need-low-weights-requires
-low-weights-requires c κs = search needs
-
-enum-told-3 : tie.Need-enum-told-3
-enum-told-3 c = search needs
-
-low-weights-requires-2 : tie.Need-low-weights-requires-2
-low-weights-requires-2 c κs = search needs
-
-enum-told-4 : tie.Need-enum-told-4
-enum-told-4 c = search needs
-
-high-weights-requires : tie.Need-high-weights-requires
-high-weights-requires c κs = search needs
-
-enum-told-5 : tie.Need-enum-told-5
-enum-told-5 c = search needs
-
-high-weights-requires-2 : tie.Need-high-weights-requires-2
-high-weights-requires-2 c κs = search needs
 
 returns : tie.Need-returns
 returns c = rw (c .before .before .enum-told .given .1) (c .interior .ensures ∙ ap (interior binary64) (c .before .hermite-basis .ensures))
@@ -59,20 +26,5 @@ returns-5 c = rw (c .before .enum-told5 .given .1) (c .high-weights2 .ensures)
 pub interp-weights-spec : {M : Type 1} → statement M
 interp-weights-spec =
     tie.close
-    (tie.spec
-    enum-told
-    hermite-basis-requires
-    interior-requires
-    enum-told-2
-    low-weights-requires
-    enum-told-3
-    low-weights-requires-2
-    enum-told-4
-    high-weights-requires
-    enum-told-5
-    high-weights-requires-2
-    returns
-    returns-2
-    returns-3
-    returns-4
-    returns-5)
+    (tie.spec (search needs) (search needs) (search needs) (search needs) (search needs) (search needs) (search needs) (search needs)
+    (search needs) (search needs) (search needs) returns returns-2 returns-3 returns-4 returns-5)

@@ -1,13 +1,10 @@
--- `local_t` meets its contract. Assumes nothing.
+-- `local_t`: the definition, once point 1 is known.
 use borrow.Author.Needs.{needs}
 use Rattle.regular_axis.proofs.local_t.Statement.{statement}
 use Rattle.regular_axis.proofs.local_t.Tie as tie
-
-index-one-loc-requires : tie.Need-index-one-loc-requires
-index-one-loc-requires c κs = search needs
 
 returns : tie.Need-returns
 returns c = cc
 
 pub local-t-spec : {M : Type 1} → statement M
-local-t-spec = tie.close (tie.spec index-one-loc-requires returns)
+local-t-spec = tie.close (tie.spec (search needs) returns)

@@ -1,4 +1,4 @@
--- `run_queries` meets its contract. Assumes nothing.
+-- What is left of the queries falls, and there are at most 64.
 use Prim.Native.Nat.{_≤_, _-_}
 use native.Mathlib.Omega.{arith}
 use borrow.Author.Needs.{needs}
@@ -11,18 +11,6 @@ Inv-loop words g axes vals queries values₀ gradients₀ count r₀ i₀ values
 abbrev μ-loop : tie.MeasureT-loop
 μ-loop words g axes vals queries values₀ gradients₀ count r₀ i₀ values gradients r i = count - i
 
-at-most-64-requires : tie.Need-at-most-64-requires Inv-loop μ-loop
-at-most-64-requires c κs = search needs
-
-loop-holds : tie.Need-loop-holds Inv-loop μ-loop
-loop-holds c = search needs
-
-returns : tie.Need-returns Inv-loop μ-loop
-returns c = search needs
-
-run-query-requires : tie.Need-run-query-requires Inv-loop μ-loop
-run-query-requires c κs = search needs
-
 add-i : tie.Need-add-i Inv-loop μ-loop
 add-i c = omega (arith, c .before .before .before .before .before .before .loop-test .taken)
 
@@ -32,20 +20,7 @@ loop-less c = omega (arith, c .before .before .before .before .before .before .l
 loop-again : tie.Need-loop-again Inv-loop μ-loop
 loop-again c = (omega (arith, c .before .before .before .before .before .before .loop-test .taken), c .before .before .before .before .before .before .before .loop .inv .1)
 
-returns-2 : tie.Need-returns-2 Inv-loop μ-loop
-returns-2 c = search needs
-
 pub run-queries-spec : {M : Type 1} → statement M
 run-queries-spec =
-    tie.close
-    (tie.spec
-    Inv-loop
-    μ-loop
-    at-most-64-requires
-    loop-holds
-    returns
-    run-query-requires
-    add-i
-    loop-less
-    loop-again
-    returns-2)
+    tie.close (tie.spec Inv-loop μ-loop (λ c κs. search needs) (λ c. search needs) (λ c. search needs) (λ c κs. search needs) add-i loop-less loop-again
+    (λ c. search needs))

@@ -1,10 +1,10 @@
--- `float_at` meets its contract. Assumes nothing.
+-- An entry that is there is read, whatever would stand past the end; past it stands +0.
 use mathlib.Core.Path.{sym}
 use lib.ListN.{List·getD-eq-default}
 use lib.Ieee.{nan, ofBits}
 use denote.Ref.{now}
 use Rattle.ieee.specs.Numbers.{zero}
-use Rattle.slices.proofs.Laws.{default}
+use Rattle.slices.proofs.Laws.{present}
 use borrow.Author.Needs.{needs}
 use Rattle.slices.proofs.float_at.Statement.{statement}
 use Rattle.slices.proofs.float_at.Tie as tie
@@ -16,7 +16,7 @@ shared-slice-read-result : tie.Need-shared-slice-read-result
 shared-slice-read-result c = search needs
 
 returns : tie.Need-returns
-returns c = default (now (c .before .before .args .xs)) (c .before .before .args .i) nan zero (c .before .if1 .taken)
+returns c = present (now (c .before .before .args .xs)) (c .before .before .args .i) nan zero (c .before .if1 .taken)
 
 returns-2 : tie.Need-returns-2
 unfolding ofBits

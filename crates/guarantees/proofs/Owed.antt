@@ -1,0 +1,36 @@
+-- Two tables that answer as the definitions give have what is owed of them.
+use mathlib.Core.Path.{_≡_}
+use mathlib.Core.List.{List}
+use Prim.Native.Nat.{ℕ}
+use lib.Ieee.{Float, Format}
+use Rattle.multicubic.specs.declared.Answer.{Answer}
+use Rattle.multicubic.specs.declared.Outcome.{Outcome}
+use Rattle.grid.specs.Query.{Grid, at, outcomeOf, valueAnswer, gradientAnswer}
+use Rattle.grid.specs.Batch.{interpOutcome, interpBuffer, gradBuffer}
+use Rattle.guarantees.specs.Statements.{OwedAlone, OwedInBatch}
+use Rattle.guarantees.proofs.Typing.{Typed}
+use Rattle.guarantees.proofs.Nodes.{Supplied, node-rule, node-corollary, node-in-batch}
+use Rattle.guarantees.proofs.Blocks.{Counted, block-rule, block-gradient, block-in-batch, block-in-columns}
+
+pub owed-alone : {f : Format} {premises : Type 0} {g g' : Grid} {query : ℕ → Float} {answer answer' : Answer} {o o' : Outcome} {xs xs' : List Float}
+    → Supplied f premises g → Supplied f premises g' → Typed f query
+    → answer ≡ valueAnswer f g query → answer' ≡ valueAnswer f g' query
+    → (o ≡ outcomeOf g query) × (xs ≡ gradientAnswer f g query) → (o' ≡ outcomeOf g' query) × (xs' ≡ gradientAnswer f g' query)
+    → OwedAlone premises g g' query answer answer' o o' xs xs'
+owed-alone {f} {premises} {g} {g'} {query} {answer} {answer'} {o} {o'} {xs} {xs'} kind kind' typed e e' d d' = record {
+  node = node-rule f premises g kind query typed answer e;
+  corollary = node-corollary f premises g g' kind kind' query typed answer answer' e e';
+  block = block-rule f g g' query answer answer' e e';
+  gradient-block = block-gradient f g g' query o o' xs xs' (d .0) (d .1) (d' .0) (d' .1);
+}
+
+pub owed-in-batch : {f : Format} {premises : Type 0} {g g' : Grid} {queries : List Float} {outcome : Outcome} {before after before' after' grad grad-after grad' grad-after' : List Float}
+    → Supplied f premises g → Counted g → Typed f (at queries)
+    → (outcome ≡ interpOutcome f g queries before) × (after ≡ interpBuffer f g queries before) → after' ≡ interpBuffer f g' queries before'
+    → grad-after ≡ gradBuffer f g queries grad → grad-after' ≡ gradBuffer f g' queries grad'
+    → OwedInBatch f premises g g' queries outcome before after before' after' grad grad-after grad' grad-after'
+owed-in-batch {f} {premises} {g} {g'} {queries} {outcome} {before} {after} {before'} {after'} {grad} {grad-after} {grad'} {grad-after'} kind counted typed e e' d d' = record {
+  node = node-in-batch f premises g kind queries before after outcome typed (e .0) (e .1);
+  block = block-in-batch f g g' queries before after before' after' (e .1) e';
+  columns = block-in-columns f g g' queries grad grad-after grad' grad-after' counted d d';
+}

@@ -1,0 +1,2 @@
+-- The lemma about them.
+pub mod MarkedRows

@@ -1,0 +1,2 @@
+-- The marked rows of paper 01.
+pub mod MarkedRows

@@ -1,2 +1,0 @@
--- A rectilinear grid as paper 01 defines it.
-pub mod Grid

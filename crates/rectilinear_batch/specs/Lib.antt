@@ -1,1 +1,0 @@
--- A batch on a rectilinear grid is defined in `grid`, over the axes of `rectilinear`.

@@ -1,0 +1,27 @@
+-- What a rectilinear grid supplies to the laws of `guarantees`: its sizes and its number of axes by its checks, the law of each axis within
+-- the premise on gaps.
+use mathlib.Core.Path.{_≡_}
+use mathlib.Core.List.{List}
+use Prim.Native.Nat.{ℕ, _≤_}
+use native.Mathlib.Omega.{arith}
+use lib.ListN.{length, take}
+use lib.Ieee.{Float, Format}
+use Rattle.multicubic.specs.declared.EdgeMode.{EdgeMode}
+use Rattle.grid.specs.Query.{at}
+use Rattle.rectilinear_order.specs.Grid.{axesOf}
+use Rattle.rectilinear_query.specs.Grid.{gridOf, AllPremises}
+use Rattle.rectilinear_query.proofs.Sizes.{passed, sized}
+use Rattle.rectilinear.proofs.Laws.{node-laws}
+use Rattle.rectilinear.proofs.Guarantees.{axes-counted}
+use Rattle.guarantees.proofs.Typing.{Typed}
+use Rattle.guarantees.proofs.Nodes.{Supplied}
+use Rattle.guarantees.proofs.Blocks.{Counted}
+
+module _ (f : Format) (n : ℕ) (counts : List ℕ) (joined vals : List Float) (mode : EdgeMode) where
+  pub supplied : Typed f (at joined) → Typed f (at vals) → Supplied f (AllPremises f (axesOf (take n counts) joined)) (gridOf f n counts joined vals mode)
+  supplied entries held = record { sized = sized f n counts joined vals mode; laws = λ taken. node-laws f n counts joined vals mode taken (λ k l. entries k); held = λ k l. held k }
+
+  pub counted : length counts ≡ 4 → Counted (gridOf f n counts joined vals mode)
+  counted four taken =
+      let few : n ≤ 4 = passed n counts joined (length vals) taken .few in
+      (axes-counted f n counts joined vals mode (omega arith), few)

@@ -1,0 +1,2 @@
+-- The rectilinear grid that slices describe.
+pub mod Rectilinear

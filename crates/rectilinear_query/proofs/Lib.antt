@@ -1,0 +1,3 @@
+-- Laws of a rectilinear grid.
+pub mod Sizes
+pub mod Locating

@@ -1,0 +1,103 @@
+// A query on a rectilinear grid that is taken: what single answers and batches ask for each of their queries.
+ghost use mathlib.Core.Path.{_≡_};
+ghost use Prim.Native.Nat.{_+_, _*_, _≤_, _<_};
+ghost use lib.ListN.{length};
+ghost use lib.Ieee.{binary64};
+ghost use Rattle.multicubic.specs.Same.{asAnswer};
+ghost use Rattle.grid.specs.Batch.{foundAt};
+ghost use Rattle.grid.specs.Internal.{rowAt, Asked, answerTo};
+ghost use Rattle.rectilinear_query.specs.Grid.{gridAxis, axesIn};
+ghost use Rattle.rectilinear_query.specs.Internal.{Ready};
+use grid::Quantity;
+use grid::is_component;
+use multicubic::Answer;
+use multicubic::Loc;
+use multicubic::Place;
+use multicubic::answered;
+use multicubic::refused_query;
+use rectilinear_axis::derivatives_at;
+use rectilinear_axis::get_loc;
+use rectilinear_axis::weights_at;
+use reduction::reduce1;
+use reduction::reduce2;
+use reduction::reduce3;
+use reduction::reduce4;
+
+// The weights of x's block at its place, or its derivative weights.
+fn row_at(
+    entries: &[f64],
+    x: f64,
+    place: Place,
+    linearize_extrapolation: bool,
+    derivative: bool,
+) -> [f64; 4]
+    requires { ⌜ place .origin + 4 ≤ length (now entries) ⌝ }
+    ensures { λ r. ⌜ r ≡ rowAt (gridAxis binary64 «linearize_extrapolation» (now (entries .entry))) x place derivative ⌝ }
+{
+    if derivative {
+        return derivatives_at(entries, x, place, linearize_extrapolation);
+    }
+    weights_at(entries, x, place, linearize_extrapolation)
+}
+
+// What is asked of query i of a batch, in one pass over the axes: place, weigh, add to the index of the block's first value; then reduce.
+// The dispatch stands here, and not behind a call, so that the rows stay where they are.
+pub fn answer_at(
+    axis_count: usize,
+    counts: [usize; 4],
+    axes: &[f64],
+    vals: &[f64],
+    linearize_extrapolation: bool,
+    strides: [usize; 4],
+    queries: &[f64],
+    count: usize,
+    i: usize,
+    quantity: Quantity,
+) -> Answer
+    requires { ⌜ Ready «axis_count» counts (now axes) (length (now vals)) strides ⌝ }
+    requires { ⌜ (i < count) × («axis_count» * count ≤ length (now queries)) ⌝ }
+    requires { ⌜ Asked «axis_count» quantity ⌝ }
+    ensures { λ r. ⌜
+        asAnswer r ≡ answerTo binary64 (axesIn binary64 «linearize_extrapolation» «axis_count» counts (now (axes .entry)))
+        (now (vals .entry)) quantity i
+        (foundAt (axesIn binary64 «linearize_extrapolation» «axis_count» counts (now (axes .entry))) count (now (queries .entry)) i)
+        ⌝ }
+{
+    let mut rows = [[0.0; 4]; 4];
+    let mut base: usize = 0;
+    let mut at = i;
+    let mut start: usize = 0;
+    let mut axis: usize = 0;
+    while axis < axis_count {
+        let x = queries[at];
+        let end = start + counts[axis];
+        let loc = get_loc(&axes[start..end], x);
+        let Loc::At(place) = loc else {
+            return answered(refused_query(i, axis), 0.0);
+        };
+        let derivative = is_component(quantity, axis);
+        rows[axis] = row_at(
+            &axes[start..end],
+            x,
+            place,
+            linearize_extrapolation,
+            derivative,
+        );
+        let o = place.origin;
+        let s = strides[axis];
+        base = base + o * s;
+        at = at + count;
+        start = end;
+        axis += 1;
+    }
+    if axis_count == 3 {
+        return Answer::Value(reduce3(vals, rows, strides, base));
+    }
+    if axis_count == 1 {
+        return Answer::Value(reduce1(vals, rows, strides, base));
+    }
+    if axis_count == 2 {
+        return Answer::Value(reduce2(vals, rows, strides, base));
+    }
+    Answer::Value(reduce4(vals, rows, strides, base))
+}

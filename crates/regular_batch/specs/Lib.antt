@@ -1,1 +1,0 @@
--- A batch on a regular grid is defined in `grid`, over the axes of `regular`.

@@ -1,0 +1,27 @@
+-- What a regular grid supplies to the laws of `guarantees`: its sizes and its number of axes by its checks, the law of each axis within the
+-- premises on steps and starts.
+use mathlib.Core.Path.{_≡_}
+use mathlib.Core.List.{List}
+use Prim.Native.Nat.{ℕ, _≤_}
+use native.Mathlib.Omega.{arith}
+use lib.ListN.{length, take}
+use lib.Ieee.{Float, Format}
+use Rattle.multicubic.specs.declared.Axis.{Axis}
+use Rattle.multicubic.specs.declared.EdgeMode.{EdgeMode}
+use Rattle.grid.specs.Query.{at}
+use Rattle.regular_query.specs.Grid.{gridOf, AllPremises}
+use Rattle.regular_query.proofs.Sizes.{passed, sized}
+use Rattle.regular.proofs.Laws.{node-laws}
+use Rattle.regular.proofs.Guarantees.{axes-counted}
+use Rattle.guarantees.proofs.Typing.{Typed}
+use Rattle.guarantees.proofs.Nodes.{Supplied}
+use Rattle.guarantees.proofs.Blocks.{Counted}
+
+module _ (f : Format) (n : ℕ) (axes : List Axis) (vals : List Float) (mode : EdgeMode) where
+  pub supplied : Typed f (at vals) → Supplied f (AllPremises (take n axes)) (gridOf f n axes vals mode)
+  supplied held = record { sized = sized f n axes vals mode; laws = node-laws f n axes vals mode; held = λ k l. held k }
+
+  pub counted : length axes ≡ 4 → Counted (gridOf f n axes vals mode)
+  counted four taken =
+      let few : n ≤ 4 = passed n axes (length vals) taken .few in
+      (axes-counted f n axes vals mode (omega arith), few)

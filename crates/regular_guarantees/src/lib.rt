@@ -1,0 +1,73 @@
+// Demand 3 said of the calls on a regular grid: two tables on the same axes, each with its own values and setting, asked alone and in a batch.
+ghost use lib.ListN.{take};
+ghost use lib.Ieee.{binary64};
+ghost use Rattle.multicubic.specs.Same.{asAnswer};
+ghost use Rattle.grid.specs.Query.{at};
+ghost use Rattle.regular_query.specs.Grid.{gridOf, AllPremises};
+ghost use Rattle.guarantees.specs.Statements.{OwedAlone, OwedInBatch};
+use guarantees::TwoTables;
+use multicubic::Axis;
+use multicubic::EdgeMode;
+use multicubic::Outcome;
+
+// A query asked alone: `interp_one` and `interp_one_grad` on both tables.
+pub fn alone(
+    axis_count: usize,
+    axes: [Axis; 4],
+    x: [f64; 4],
+    vals: &[f64],
+    mode: EdgeMode,
+    other_vals: &[f64],
+    other_mode: EdgeMode,
+) -> TwoTables
+    ensures { λ r. ⌜ OwedAlone (AllPremises (take «axis_count» axes))
+        (gridOf binary64 «axis_count» axes (now (vals .entry)) mode)
+        (gridOf binary64 «axis_count» axes (now («other_vals» .entry)) «other_mode»)
+        (at x) (asAnswer (r .value)) (asAnswer (r .«other_value»))
+        (r .gradient .outcome) (r .«other_gradient» .outcome) (r .gradient .gradient) (r .«other_gradient» .gradient) ⌝ }
+{
+    let value = regular::interp_one(axis_count, axes, vals, mode, x);
+    let gradient = regular::interp_one_grad(axis_count, axes, vals, mode, x);
+    let other_value = regular::interp_one(axis_count, axes, other_vals, other_mode, x);
+    let other_gradient = regular::interp_one_grad(axis_count, axes, other_vals, other_mode, x);
+    TwoTables {
+        value,
+        gradient,
+        other_value,
+        other_gradient,
+    }
+}
+
+// A batch: `interp` and `interp_grad` on both tables.
+pub fn in_batch(
+    axis_count: usize,
+    axes: [Axis; 4],
+    queries: &[f64],
+    vals: &[f64],
+    mode: EdgeMode,
+    out: &mut [f64],
+    grad: &mut [f64],
+    other_vals: &[f64],
+    other_mode: EdgeMode,
+    other_out: &mut [f64],
+    other_grad: &mut [f64],
+) -> Outcome
+    ensures { λ r. ⌜ OwedInBatch binary64 (AllPremises (take «axis_count» axes))
+        (gridOf binary64 «axis_count» axes (now (vals .entry)) mode)
+        (gridOf binary64 «axis_count» axes (now («other_vals» .entry)) «other_mode»)
+        (now (queries .entry)) r (now (out .entry)) (now (out .exit)) (now («other_out» .entry)) (now («other_out» .exit))
+        (now (grad .entry)) (now (grad .exit)) (now («other_grad» .entry)) (now («other_grad» .exit)) ⌝ }
+{
+    let outcome = regular_batch::interp(axis_count, axes, vals, mode, queries, out);
+    regular_batch::interp_grad(axis_count, axes, vals, mode, queries, grad);
+    regular_batch::interp(axis_count, axes, other_vals, other_mode, queries, other_out);
+    regular_batch::interp_grad(
+        axis_count,
+        axes,
+        other_vals,
+        other_mode,
+        queries,
+        other_grad,
+    );
+    outcome
+}

@@ -1,0 +1,2 @@
+-- The regular grid that slices describe.
+pub mod Regular

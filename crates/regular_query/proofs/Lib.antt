@@ -1,0 +1,4 @@
+-- Laws of a regular grid.
+pub mod Calls
+pub mod Sizes
+pub mod Locating

@@ -1,0 +1,99 @@
+// A query on a regular grid that is taken: what single answers and batches ask for each of their queries.
+ghost use mathlib.Core.Path.{_≡_};
+ghost use Prim.Native.Nat.{_*_, _≤_, _<_};
+ghost use lib.ListN.{length};
+ghost use lib.Ieee.{binary64};
+ghost use Rattle.multicubic.specs.Same.{asAnswer};
+ghost use Rattle.grid.specs.Batch.{foundAt};
+ghost use Rattle.grid.specs.Internal.{rowAt, Asked, answerTo};
+ghost use Rattle.regular_query.specs.Grid.{countsOf, gridAxis, axesIn};
+ghost use Rattle.regular_query.specs.Internal.{Ready};
+use grid::Quantity;
+use grid::is_component;
+use multicubic::Answer;
+use multicubic::Axis;
+use multicubic::Loc;
+use multicubic::Place;
+use multicubic::answered;
+use multicubic::refused_query;
+use reduction::reduce1;
+use reduction::reduce2;
+use reduction::reduce3;
+use reduction::reduce4;
+use regular_axis::derivatives_at;
+use regular_axis::get_loc;
+use regular_axis::weights_at;
+
+pub fn counts_of(axes: [Axis; 4]) -> [usize; 4]
+    ensures { λ r. ⌜ r ≡ countsOf axes ⌝ }
+{
+    [axes[0].count, axes[1].count, axes[2].count, axes[3].count]
+}
+
+// The weights of x's block at its place, or its derivative weights.
+fn row_at(
+    axis: Axis,
+    x: f64,
+    place: Place,
+    linearize_extrapolation: bool,
+    derivative: bool,
+) -> [f64; 4]
+    requires { ⌜ place .origin < 4096 ⌝ }
+    ensures { λ r. ⌜ r ≡ rowAt (gridAxis binary64 «linearize_extrapolation» axis) x place derivative ⌝ }
+{
+    if derivative {
+        return derivatives_at(axis, x, place, linearize_extrapolation);
+    }
+    weights_at(axis, x, place, linearize_extrapolation)
+}
+
+// What is asked of query i of a batch, in one pass over the axes: place, weigh, add to the index of the block's first value; then reduce.
+// The dispatch stands here, and not behind a call, so that the rows stay where they are.
+pub fn answer_at(
+    axis_count: usize,
+    axes: [Axis; 4],
+    vals: &[f64],
+    linearize_extrapolation: bool,
+    strides: [usize; 4],
+    queries: &[f64],
+    count: usize,
+    i: usize,
+    quantity: Quantity,
+) -> Answer
+    requires { ⌜ Ready «axis_count» axes (length (now vals)) strides ⌝ }
+    requires { ⌜ (i < count) × («axis_count» * count ≤ length (now queries)) ⌝ }
+    requires { ⌜ Asked «axis_count» quantity ⌝ }
+    ensures { λ r. ⌜
+        asAnswer r ≡ answerTo binary64 (axesIn binary64 «linearize_extrapolation» «axis_count» axes) (now (vals .entry)) quantity i
+        (foundAt (axesIn binary64 «linearize_extrapolation» «axis_count» axes) count (now (queries .entry)) i)
+        ⌝ }
+{
+    let mut rows = [[0.0; 4]; 4];
+    let mut base: usize = 0;
+    let mut at = i;
+    let mut axis: usize = 0;
+    while axis < axis_count {
+        let x = queries[at];
+        let loc = get_loc(axes[axis], x);
+        let Loc::At(place) = loc else {
+            return answered(refused_query(i, axis), 0.0);
+        };
+        let derivative = is_component(quantity, axis);
+        rows[axis] = row_at(axes[axis], x, place, linearize_extrapolation, derivative);
+        let o = place.origin;
+        let s = strides[axis];
+        base = base + o * s;
+        at = at + count;
+        axis += 1;
+    }
+    if axis_count == 3 {
+        return Answer::Value(reduce3(vals, rows, strides, base));
+    }
+    if axis_count == 1 {
+        return Answer::Value(reduce1(vals, rows, strides, base));
+    }
+    if axis_count == 2 {
+        return Answer::Value(reduce2(vals, rows, strides, base));
+    }
+    Answer::Value(reduce4(vals, rows, strides, base))
+}

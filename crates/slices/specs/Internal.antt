@@ -1,0 +1,22 @@
+-- What the calls on gathered grids promise to the calls for C: no definition of 01's, and none of it need be believed, since the contracts of
+-- the calls for C do not mention it.
+use mathlib.Core.Path.{_≡_}
+use mathlib.Core.List.{List}
+use lib.Ieee.{Float, Format}
+use Rattle.multicubic.specs.declared.Outcome.{Outcome}
+use Rattle.multicubic.specs.declared.Place.{Place}
+use Rattle.grid.specs.Query.{Grid, at, outcomeOf, gradientAnswer, placeAnswer}
+use Rattle.grid.specs.Batch.{interpOutcome, interpBuffer, gradOutcome, gradBuffer}
+use Rattle.slices.specs.Slices.{queryFrom}
+
+abbrev pub PlacesOn : Grid → List Float → Outcome → List Place → Type 0
+PlacesOn g x outcome places = (outcome ≡ outcomeOf g (at (queryFrom x))) × (places ≡ placeAnswer g (at (queryFrom x)))
+
+abbrev pub GradientOn : Format → Grid → List Float → Outcome → List Float → Type 0
+GradientOn f g x outcome gradient = (outcome ≡ outcomeOf g (at (queryFrom x))) × (gradient ≡ gradientAnswer f g (at (queryFrom x)))
+
+abbrev pub InterpOn : Format → Grid → List Float → List Float → Outcome → List Float → Type 0
+InterpOn f g queries before outcome after = (outcome ≡ interpOutcome f g queries before) × (after ≡ interpBuffer f g queries before)
+
+abbrev pub InterpGradOn : Format → Grid → List Float → List Float → Outcome → List Float → Type 0
+InterpGradOn f g queries before outcome after = (outcome ≡ gradOutcome f g queries before) × (after ≡ gradBuffer f g queries before)

@@ -1,0 +1,21 @@
+-- A grid gathered from slices of any length, as a call sees it: the refusals of slices that are too short are among its checks.
+use Prim.Native.Nat.{ℕ}
+use Rattle.multicubic.specs.declared.Outcome.{Outcome}
+use Rattle.grid.specs.Query.{Grid}
+use Rattle.slices.specs.Slices.{slicesOf, querySlicesOf, lower}
+
+-- a grid, and the length of the shortest slice that it is gathered from
+pub record Gathered : Type 0 where
+  pub grid : Grid
+  pub shortest : ℕ
+
+abbrev pub lent : Outcome → Grid → Grid
+lent slices g = record { checked = lower slices (g .checked); axis-count = g .axis-count; axes = g .axes; vals = g .vals }
+
+-- to a call without a single query, by the length of `refusal`
+abbrev pub lentTo : Gathered → ℕ → Grid
+lentTo s refusal = lent (slicesOf (s .grid .axis-count) (s .shortest) refusal) (s .grid)
+
+-- to a single query, by its length, that of `refusal`, the room that is lent and the entries that are needed
+abbrev pub lentToQuery : Gathered → ℕ → ℕ → ℕ → ℕ → Grid
+lentToQuery s query refusal room need = lent (querySlicesOf (s .grid .axis-count) (s .shortest) query refusal room need) (s .grid)

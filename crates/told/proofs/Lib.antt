@@ -1,0 +1,2 @@
+-- Laws of what is told and written.
+pub mod Laws

@@ -1,0 +1,2 @@
+-- What a call tells and writes.
+pub mod Told
