@@ -1,5 +1,5 @@
 /* Reads a small regular table from C: values, a slope, a batch that is refused in the middle, and a grid that is turned away.
- * Prints what it finds, and exits with 1 where that is not what the scope paper says. */
+ * Prints what it finds, and exits with 1 where that is not what docs/SPECIFICATION.md says. */
 #include <math.h>
 #include <stdio.h>
 

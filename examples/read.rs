@@ -1,5 +1,5 @@
 // Reads a small rectilinear table from Rust by the calls for C: a value, its gradient, and a node. Exits with 1 where an answer is
-// not what the scope paper says.
+// not what docs/SPECIFICATION.md says.
 #[link(name = "capi", kind = "static")]
 unsafe extern "C" {
     fn veltzuma_rectilinear_interp_one(

@@ -4,7 +4,8 @@
  *
  * Every call takes any input. A slice is a pointer and a length in entries, and may have any length; a null pointer with length 0
  * is an empty slice, a null pointer with another length is not allowed. The slices of one call must not overlap. Nothing is kept
- * after a call returns, nothing is allocated, and calls may run at the same time on several threads.
+ * after a call returns, nothing is allocated, and calls may run at the same time on several threads. Pointers are aligned for their
+ * type, and a bool is 0 or 1. The floating-point environment is the one that a program starts with: round to nearest, subnormals kept.
  *
  * A call returns one of these numbers:
  *
@@ -23,7 +24,7 @@
  * The checks run in this order, each over all axes before the next. refusal[0] receives the query and refusal[1] the axis; both
  * are 0 where the table names none. On 7 nothing at all is written. value, gradient, origins and classes are written on 0 alone:
  * the first entry of value, the first axis_count entries of the others. On 8 a batch holds the answers of the queries before the
- * refused one; every other entry is as it was.
+ * refused one; every other entry is as it was, a NaN's payload too. Which payload a NaN has that is an answer is not said.
  *
  * A grid. axis_count is 1 to 4. counts holds the number of entries of each axis.
  *   regular      axis i has the entries starts[i] + steps[i] * k for k from 0 to counts[i] - 1

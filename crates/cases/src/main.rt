@@ -1,8 +1,9 @@
-// Runs 01's cases that are only run, each refusal with its place, and what is easily missed.
+// Runs the cases of clause 9.2, each refusal with its place, and what is easily missed.
 // One line for each case, and how many agree.
 use cases_calls::Score;
 use cases_calls::answered;
 use cases_calls::cubic;
+use cases_calls::not_placed;
 use cases_calls::rectilinear;
 use cases_calls::rectilinear_refused_order;
 use cases_calls::refused_batch;
@@ -23,7 +24,7 @@ use harness_report::say;
 use harness_report::say_number;
 use harness_words::clear;
 
-// 01's numbers, which hold on both kinds: at 1.5 3.375, slope 6.25; at 4 as given.
+// The numbers hold on both kinds: at 1.5 3.375, slope 6.25; at 4 as given.
 fn cubes_on(s: Score, g: Group, value: u64, slope: u64, at_1_5: &[u8], at_4: &[u8]) -> Score {
     let x = [0.0, 1.0, 2.0, 3.0];
     let v = [0.0, 1.0, 8.0, 27.0];
@@ -41,7 +42,7 @@ fn cubes_on(s: Score, g: Group, value: u64, slope: u64, at_1_5: &[u8], at_4: &[u
     answered(s, g, &x, &v, 4.0, 4, value, slope, at_4)
 }
 
-// Linearised at 4: 52, slope 25. Cubic: 58, and the slope 37, which 01 does not give.
+// Linearised at 4: 52, slope 25. Cubic: 58, and the slope 37, which the clause does not give.
 fn cubes(s: Score) -> Score {
     let g = regular(1, 4, 0, 0, 1.0, 1.0);
     let h = rectilinear(1, 4, 0, 0);
@@ -69,6 +70,7 @@ fn cubes(s: Score) -> Score {
     )
 }
 
+// Values that are NaN, at a query that is a number.
 fn not_numbers(s: Score) -> Score {
     let vals = [0.0 / 0.0; 4];
     let entries = [0.0, 1.0, 2.0, 3.0];
@@ -82,7 +84,7 @@ fn not_numbers(s: Score) -> Score {
         0,
         nan,
         nan,
-        b"regular, all NaN",
+        b"regular, all values NaN",
     );
     answered(
         s,
@@ -93,7 +95,34 @@ fn not_numbers(s: Score) -> Score {
         0,
         nan,
         nan,
-        b"rectilinear, all NaN",
+        b"rectilinear, all values NaN",
+    )
+}
+
+// Values and query all NaN. It is unplaceable on a regular axis; on a rectilinear one it is OutsideLow and answered.
+fn all_nan(s: Score) -> Score {
+    let x = 0.0 / 0.0;
+    let vals = [x; 4];
+    let entries = [0.0, 1.0, 2.0, 3.0];
+    let nan = 0x7FF8_0000_0000_0000;
+    let s = not_placed(
+        s,
+        regular(1, 4, 0, 0, 1.0, 1.0),
+        &entries,
+        &vals,
+        x,
+        b"regular, values and query NaN",
+    );
+    answered(
+        s,
+        rectilinear(1, 4, 0, 0),
+        &entries,
+        &vals,
+        x,
+        2,
+        nan,
+        nan,
+        b"rectilinear, values and query NaN",
     )
 }
 
@@ -208,6 +237,7 @@ fn stopped(s: Score, z: &[f64]) -> Score {
 fn all(s: Score, z: &[f64]) -> Score {
     let s = cubes(s);
     let s = not_numbers(s);
+    let s = all_nan(s);
     let s = refusals(s);
     let s = rectilinear_order(s, z);
     let s = regular_batches(s, z);

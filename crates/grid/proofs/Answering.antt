@@ -19,13 +19,14 @@ use Rattle.multicubic.specs.declared.Outcome.the-variants.{Refused}
 use Rattle.multicubic.specs.declared.Place.{Place}
 use Rattle.multicubic.specs.Answers.{answered}
 use Rattle.multicubic.specs.Place.{nowhere, Placed}
-use Rattle.reduction.specs.Value.{stridesOf, offset, block, reach, from, reduceOf}
+use Rattle.reduction.specs.Value.{stridesOf, offset, block, reduceOf}
+use Rattle.reduction.specs.Internal.{reach, from}
 use Rattle.reduction.proofs.Reduction.{offset-last, offset-take, from-block, reaches}
 use Rattle.grid.specs.declared.Quantity.{Quantity}
 use Rattle.grid.specs.declared.Quantity.the-variants.{Value, Component}
-use Rattle.grid.specs.Query.{GridAxis, noAxis, countsOf, Found, unplaceableAt, places, find, originsOf, rowsOf, blockOf, valueOf, componentAt, componentsFrom}
+use Rattle.grid.specs.Query.{GridAxis, countsOf, Found, unplaceableAt, places, find, originsOf, rowsOf, blockOf, valueOf, componentAt, componentsFrom}
 use Rattle.grid.specs.Batch.{queryAt, foundAt}
-use Rattle.grid.specs.Internal.{isComponent, rowAt, Asked, quantityAt, answerTo}
+use Rattle.grid.specs.Internal.{isComponent, rowAt, Asked, quantityAt, answerTo, noAxis}
 use Rattle.grid.proofs.Fit.{Fit, RoomTo, room-one, room-at, base-below, reached}
 use Rattle.grid.proofs.Locating.{SoFar, placedOn, so-far-none, so-far-placed, so-far-unplaceable, so-far-all, length-one, map-one}
 

@@ -1,4 +1,4 @@
--- Demand 3, nodes: on a grid whose axes have the node law, the value of a query at a node is the number stored there. The axis count is a
+-- Clause 8.3: on a grid whose axes have the node law, the value of a query at a node is the number stored there. The axis count is a
 -- parameter.
 use mathlib.Core.Path.{_≡_, refl, sym, ap, subst}
 use mathlib.Core.List.{List, [], _∷_}
@@ -19,8 +19,8 @@ use Rattle.multicubic.specs.Grid.{product, _then_}
 use Rattle.multicubic.specs.Answers.{answered}
 use Rattle.multicubic.specs.Place.{originOf, Placed}
 use Rattle.reduction.specs.Value.{stridesOf, offset, shifted, valueAt, reduceOf}
-use Rattle.reduction.specs.Nodes.{OneAtEach, InBlock}
-use Rattle.reduction.proofs.Blocks.{Held, value-at-node}
+use Rattle.reduction.specs.Nodes.{InBlock}
+use Rattle.reduction.proofs.Blocks.{Held, value-at-node, OneAtEach}
 use Rattle.grid.specs.Query.{GridAxis, Grid, places, located, find, countsOf, gridCounts, originsOf, rowsOf, blockOf, valueOf, cases, valueAnswer}
 use Rattle.grid.specs.Nodes.{AtIndex, stored, FiniteValues, Fits}
 use Rattle.grid.proofs.Premises.{NodeLaws, Long, Sized}

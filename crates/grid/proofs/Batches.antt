@@ -17,7 +17,8 @@ use Rattle.multicubic.specs.Grid.{_then_}
 use Rattle.multicubic.specs.Place.{Placed, AxisOutcome, unplaceable, placed}
 use Rattle.multicubic.proofs.Sizes.{or-false}
 use Rattle.multicubic.proofs.Passed.{then-accepted, refuse-accepted}
-use Rattle.grid.specs.Query.{GridAxis, noAxis, outcome, Grid, Found, unplaceableAt, places, located, gridCounts, find, valueOf, componentsFrom, componentsOf}
+use Rattle.grid.specs.Query.{GridAxis, outcome, Grid, Found, unplaceableAt, places, located, gridCounts, find, valueOf, componentsFrom, componentsOf}
+use Rattle.grid.specs.Internal.{noAxis}
 use Rattle.grid.specs.Batch.{foundAt, checkBatch, outcomeFrom, runFrom, bufferOf, putValue, putColumns, putGradient, valueChecks, gradientChecks, interpOutcome, interpBuffer, gradOutcome, gradBuffer}
 
 -- ---- a run over any queries and any write
@@ -34,7 +35,7 @@ pub record Entry (write : ℕ → List Placed → List Float → List Float) (c 
 module _ (found : ℕ → Found) (write : ℕ → List Placed → List Float → List Float) (same : (j : ℕ) (ps : List Placed) (b : List Float) → length (write j ps b) ≡ length b) where
   length-from : (left s : ℕ) (b : List Float) (o : Found) → found s ≡ o → length (runFrom found write s left b) ≡ length b
   length-from zero s b o e = refl
-  length-from (suc left) s b (unplaceableAt a) e = rw e
+  length-from (suc left) s b (unplaceableAt a) e = rw e refl
   length-from (suc left) s b (places ps) e = rw e (length-from left (suc s) (write s ps b) (found (suc s)) refl ∙ same s ps b)
 
   -- a run keeps the length

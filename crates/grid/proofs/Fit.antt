@@ -14,8 +14,10 @@ use Rattle.multicubic.specs.declared.AxesLength.{AxesLength}
 use Rattle.multicubic.specs.Grid.{product}
 use Rattle.multicubic.specs.Place.{originOf, placeOf}
 use Rattle.multicubic.proofs.Passed.{Passed}
-use Rattle.reduction.specs.Value.{stridesOf, offset, reach}
-use Rattle.grid.specs.Query.{GridAxis, noAxis, countsOf}
+use Rattle.reduction.specs.Value.{stridesOf, offset}
+use Rattle.reduction.specs.Internal.{reach}
+use Rattle.grid.specs.Query.{GridAxis, countsOf}
+use Rattle.grid.specs.Internal.{noAxis}
 use Rattle.grid.specs.Nodes.{All}
 use Rattle.grid.proofs.Premises.{Long}
 use Rattle.grid.proofs.Sizes.{all-long}

@@ -1,4 +1,4 @@
--- Demand 3 in batches: the entry of a query at a node, and the entries of a query on two tables that agree throughout its block.
+-- Clauses 8.3 and 8.5 in batches: the entry of a query at a node, and the entries of a query on two tables that agree throughout its block.
 use mathlib.Core.Path.{_≡_, refl, sym, ap, _∙_, subst}
 use mathlib.Core.List.{List}
 use mathlib.Core.Logic.{_⊎_, inl, inr}

@@ -12,8 +12,8 @@ use Rattle.multicubic.specs.declared.Loc.the-variants.{At, Unplaceable}
 use Rattle.multicubic.specs.declared.Place.{Place}
 use Rattle.multicubic.specs.declared.PlaceAnswer.{PlaceAnswer}
 use Rattle.multicubic.specs.Place.{nowhere, fourNowhere, Placed, placed}
-use Rattle.grid.specs.Query.{GridAxis, noAxis, Grid, Found, unplaceableAt, places, located, find, outcomeOf, placesOf, placeAnswer}
-use Rattle.grid.specs.Internal.{Located}
+use Rattle.grid.specs.Query.{GridAxis, Grid, Found, unplaceableAt, places, located, find, outcomeOf, placesOf, placeAnswer}
+use Rattle.grid.specs.Internal.{Located, noAxis}
 
 -- ---- a list with one entry more
 pub append-one : {A : Type 0} (xs ys : List A) (x : A) → xs ++ (x ∷ ys) ≡ (xs ++ (x ∷ [])) ++ ys

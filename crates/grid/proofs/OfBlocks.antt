@@ -1,4 +1,4 @@
--- Demand 3, blocks: tables that agree throughout a query's block give the same value and the same components.
+-- Clause 8.5: tables that agree throughout a query's block give the same value and the same components.
 use mathlib.Core.Path.{_≡_, refl, subst}
 use mathlib.Core.List.{List, [], _∷_}
 use Prim.Native.Nat.{ℕ, suc}

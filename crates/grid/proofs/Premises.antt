@@ -1,4 +1,4 @@
--- What the laws below ask of a grid and its axes. Each kind of grid has it from its checks and from 01's premises.
+-- What the laws below ask of a grid and its axes. Each kind of grid has it from its checks and from the premises of clause 8.2.
 use Prim.Native.Nat.{ℕ, _≤_, _<_}
 use mathlib.Core.Path.{_≡_}
 use mathlib.Core.List.{List}
@@ -7,7 +7,7 @@ use lib.IntN.{ℤ}
 use lib.ListN.{length}
 use lib.Ieee.{Float, Format, eq, fits}
 use Rattle.multicubic.specs.Grid.{product}
-use Rattle.multicubic.specs.Nodes.{AtNode}
+use Rattle.multicubic.proofs.Nodes.{AtNode}
 use Rattle.grid.specs.Query.{GridAxis, outcome, Grid, gridCounts}
 use Rattle.grid.specs.Nodes.{All}
 

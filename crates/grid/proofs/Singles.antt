@@ -12,10 +12,11 @@ use Rattle.multicubic.specs.declared.Answer.{Answer}
 use Rattle.multicubic.specs.declared.Answer.the-variants as Ans
 use Rattle.multicubic.specs.declared.Outcome.{Outcome}
 use Rattle.multicubic.specs.declared.Outcome.the-variants.{Accepted, Refused}
-use Rattle.multicubic.specs.Answers.{answerOutcome, answered}
+use Rattle.multicubic.specs.Answers.{Says, answerOutcome, valueIn, answered}
 use Rattle.multicubic.specs.Place.{Placed}
+use Rattle.multicubic.proofs.Said.{answer-says}
 use Rattle.grid.specs.declared.Quantity.the-variants.{Value, Component}
-use Rattle.grid.specs.Query.{GridAxis, countsOf, Grid, Found, places, find, at, foundComponents, fourOf, foundOutcome, outcomeOf, valueAnswer, gradientAnswer}
+use Rattle.grid.specs.Query.{GridAxis, countsOf, Grid, gridCounts, Found, places, find, at, foundValue, foundComponents, fourOf, foundOutcome, outcomeOf, valueCarried, valueAnswer, gradientAnswer}
 use Rattle.grid.specs.Batch.{foundAt}
 use Rattle.grid.specs.Internal.{answerTo, gradientTo}
 use Rattle.grid.proofs.Answering.{answer-refused, answer-value}
@@ -37,6 +38,11 @@ module _ (f : Format) (g : Grid) (x : List Float) where
 
   pub value-single : g .checked ≡ Accepted → answerTo f (g .axes) (g .vals) Value 0 (foundAt (g .axes) 1 x 0) ≡ valueAnswer f g (at x)
   value-single e = rw e (ap (answerTo f (g .axes) (g .vals) Value 0) (found-single (g .axes) x))
+
+  -- an answer that is so says it
+  pub value-says : {answer : Answer} → answer ≡ valueAnswer f g (at x)
+      → (answer ≡ valueAnswer f g (at x)) × (Says (answerOutcome answer) (outcomeOf g (at x)) × (valueIn answer ≡ valueCarried f g (at x)))
+  value-says e = answer-says (outcomeOf g (at x)) (foundValue f (gridCounts g) (g .vals) (find 0 (g .axes) (at x))) e
 
   -- ---- the gradient, from what the axes give
   pub gradient-refused : (number query axis : ℕ) → g .checked ≡ Refused number query axis → (g .checked ≡ outcomeOf g (at x)) × (fourOf (Refused number query axis) nought [] ≡ gradientAnswer f g (at x))

@@ -1,4 +1,4 @@
--- 01, "Batches (interp, interp_grad)": the queries run in order over the buffer at entry.
+-- Section 7: the queries run in order over the buffer at entry.
 use Prim.Native.Nat.{ℕ, zero, suc, _+_, _*_, _/_}
 use mathlib.Core.Bool.{not, _||_}
 use mathlib.Core.List.{List, [], _∷_}

@@ -1,14 +1,15 @@
--- What internal functions ask of each other and tell each other: no definition of 01's, and none of it need be believed, since the
+-- What internal functions ask of each other and tell each other: no definition of the specification's, and none of it need be believed, since the
 -- entry points' contracts do not mention it.
 use Prim.Native.Nat.{ℕ, _+_, _*_, _≤_, _<_}
 use mathlib.Core.Path.{_≡_}
 use mathlib.Core.Bool.{Bool, false, cond}
-use mathlib.Core.List.{List}
+use mathlib.Core.List.{List, []}
 use lib.Dec.{eqb}
 use lib.ListN.{length, getD, set}
 use lib.Ieee.{Float, nan, Format}
 use Rattle.ieee.specs.Numbers.{zero as nought}
 use Rattle.multicubic.specs.declared.Answer.{Answer}
+use Rattle.multicubic.specs.declared.Loc.the-variants.{Unplaceable}
 use Rattle.multicubic.specs.declared.Outcome.{Outcome}
 use Rattle.multicubic.specs.declared.Outcome.the-variants.{Accepted, Refused}
 use Rattle.multicubic.specs.declared.Place.{Place}
@@ -21,6 +22,10 @@ use Rattle.grid.specs.Query.{GridAxis, countsOf, Found, cases, find, val
 use Rattle.grid.specs.Batch.{foundAt}
 
 -- ---- a query
+-- past the axes
+abbrev pub noAxis : GridAxis
+noAxis = record { count = 0; loc = λ x. Unplaceable; weights = λ x p. []; derivatives = λ x p. []; node = λ i. nan }
+
 -- what is told of query `number`, by the axes alone
 abbrev pub Located : ℕ → List GridAxis → (ℕ → Float) → PlaceAnswer → Type 0
 Located number gs query r = (r .outcome ≡ foundOutcome number (find 0 gs query)) × (r .places ≡ fourPlaces (foundOutcome number (find 0 gs query)) (find 0 gs query))

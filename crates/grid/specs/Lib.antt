@@ -1,4 +1,4 @@
--- A grid of either kind as paper 01 defines it, over a list of axes that give outcomes.
+-- A grid of either kind, over a list of axes that give outcomes.
 pub mod Query
 pub mod Batch
 pub mod Nodes

@@ -1,4 +1,4 @@
--- 01, "Nodes and blocks (demand 3)", over a list of axes.
+-- Clauses 8.1, 8.2 and 8.5, over a list of axes.
 use Prim.Native.Nat.{ℕ, suc, _<_}
 use mathlib.Core.Path.{_≡_}
 use mathlib.Core.List.{List, [], _∷_}
@@ -31,9 +31,9 @@ stored g is = valueAt (g .vals) (stridesOf (gridCounts g)) is
 abbrev pub FiniteValues : List Float → Type 0
 FiniteValues vals = (k : ℕ) → k < length vals → T (finite (getD vals k nan))
 
--- typing: the format holds the values, and the query's coordinates
+-- typing: floats that the format holds
 abbrev pub Fits : Format → List Float → Type 0
-Fits f vals = (k : ℕ) → k < length vals → T (fits f (getD vals k nan))
+Fits f xs = (k : ℕ) → k < length xs → T (fits f (getD xs k nan))
 
 -- two tables hold the same bits throughout the block at the places
 abbrev pub SameBlock : List ℕ → List Placed → List Float → List Float → Type 0

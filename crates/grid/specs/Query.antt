@@ -1,4 +1,4 @@
--- One query on a grid: its places, its value and its gradient (01, "The place", "The value", "The gradient").
+-- One query on a grid: its places, its value and its gradient (clauses 3.6, 5.4 and 6.2).
 use Prim.Native.Nat.{ℕ, suc}
 use mathlib.Core.List.{List, [], _∷_, _++_, map}
 use lib.ListN.{getD, take}
@@ -7,10 +7,9 @@ use Rattle.ieee.specs.Numbers.{zero}
 use Rattle.multicubic.specs.declared.Outcome.{Outcome}
 use Rattle.multicubic.specs.declared.Outcome.the-variants.{Accepted, Refused}
 use Rattle.multicubic.specs.declared.Answer.{Answer}
-use Rattle.multicubic.specs.Answers.{answered}
+use Rattle.multicubic.specs.Answers.{carried, answered}
 use Rattle.multicubic.specs.declared.Place.{Place}
 use Rattle.multicubic.specs.declared.Loc.{Loc}
-use Rattle.multicubic.specs.declared.Loc.the-variants.{Unplaceable}
 use Rattle.multicubic.specs.Grid.{_then_}
 use Rattle.multicubic.specs.Place.{nowhere, Placed, AxisOutcome, unplaceable, placed, outcomeAt}
 use Rattle.reduction.specs.Value.{stridesOf, block, reduceOf}
@@ -24,10 +23,6 @@ pub record GridAxis : Type 0 where
   pub weights : Float → Place → List Float
   pub derivatives : Float → Place → List Float
   pub node : ℕ → Float
-
--- past the axes; nothing is said of it
-abbrev pub noAxis : GridAxis
-noAxis = record { count = 0; loc = λ x. Unplaceable; weights = λ x p. []; derivatives = λ x p. []; node = λ i. nan }
 
 -- its outcome for a coordinate
 abbrev pub outcome : GridAxis → Float → AxisOutcome
@@ -107,6 +102,10 @@ at x axis = getD x axis nan
 -- A single query is query 0: the grid's refusal, or 8.
 abbrev pub outcomeOf : Grid → (ℕ → Float) → Outcome
 outcomeOf g query = g .checked then foundOutcome 0 (find 0 (g .axes) query)
+
+-- its value, where it has one
+abbrev pub valueCarried : Format → Grid → (ℕ → Float) → List Float
+valueCarried f g query = carried (outcomeOf g query) (foundValue f (gridCounts g) (g .vals) (find 0 (g .axes) query))
 
 -- its value, or the refusal
 abbrev pub valueAnswer : Format → Grid → (ℕ → Float) → Answer

@@ -7,7 +7,7 @@ use Rattle.multicubic.specs.declared.Answer.{Answer}
 use Rattle.multicubic.specs.declared.Outcome.{Outcome}
 use Rattle.grid.specs.Query.{Grid, at, outcomeOf, valueAnswer, gradientAnswer}
 use Rattle.grid.specs.Batch.{interpOutcome, interpBuffer, gradBuffer}
-use Rattle.guarantees.specs.Statements.{OwedAlone, OwedInBatch}
+use Rattle.guarantees.specs.Statements.{AnswersOf, BuffersOf, OwedAlone, OwedInBatch}
 use Rattle.guarantees.proofs.Typing.{Typed}
 use Rattle.guarantees.proofs.Nodes.{Supplied, node-rule, node-corollary, node-in-batch}
 use Rattle.guarantees.proofs.Blocks.{Counted, block-rule, block-gradient, block-in-batch, block-in-columns}
@@ -34,3 +34,16 @@ owed-in-batch {f} {premises} {g} {g'} {queries} {outcome} {before} {after} {befo
   block = block-in-batch f g g' queries before after before' after' (e .1) e';
   columns = block-in-columns f g g' queries grad grad-after grad' grad-after' counted d d';
 }
+
+-- beside it, of what the rules speak
+pub promised-alone : {f : Format} {premises : Type 0} {g g' : Grid} {query : ℕ → Float} {answer answer' : Answer} {o o' : Outcome} {xs xs' : List Float}
+    → Supplied f premises g → Supplied f premises g' → Typed f query → AnswersOf f g query answer o xs → AnswersOf f g' query answer' o' xs'
+    → OwedAlone premises g g' query answer answer' o o' xs xs' × (AnswersOf f g query answer o xs × AnswersOf f g' query answer' o' xs')
+promised-alone kind kind' typed e e' = (owed-alone kind kind' typed (e .0) (e' .0) (e .1, e .2) (e' .1, e' .2), (e, e'))
+
+pub promised-in-batch : {f : Format} {premises : Type 0} {g g' : Grid} {queries : List Float} {outcome : Outcome} {before after before' after' grad grad-after grad' grad-after' : List Float}
+    → Supplied f premises g → Counted g → Typed f (at queries)
+    → outcome ≡ interpOutcome f g queries before → BuffersOf f g queries before after grad grad-after → BuffersOf f g' queries before' after' grad' grad-after'
+    → OwedInBatch f premises g g' queries outcome before after before' after' grad grad-after grad' grad-after'
+    × ((outcome ≡ interpOutcome f g queries before) × (BuffersOf f g queries before after grad grad-after × BuffersOf f g' queries before' after' grad' grad-after'))
+promised-in-batch kind counted typed o e e' = (owed-in-batch kind counted typed (o, e .0) (e' .0) (e .1) (e' .1), (o, (e, e')))

@@ -12,7 +12,8 @@ use lib.Ieee.Fits.{up-pos, down-pos, round-is, neg-fits, and-l, and-r, and-i}
 use lib.Ieee.Scale.{finite}
 use lib.Ieee.Positive.{positive}
 use Rattle.ieee.proofs.Unique.{round-self, one-way}
-use Rattle.ieee.specs.Numbers.{one, IsZero}
+use Rattle.ieee.specs.Numbers.{one}
+use Rattle.ieee.proofs.Zero.{IsZero}
 use Rattle.ieee.proofs.ZeroOne.{nil, Same, round-zero, sum-cancel, add-nil-right, add-zeros, add-zero-left, same-trans, zero-of}
 
 pub same-sym : (x y : Float) → Same x y → Same y x

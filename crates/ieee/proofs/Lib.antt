@@ -1,4 +1,5 @@
 -- Laws of IEEE 754 arithmetic, the format a parameter. None knows of tables.
+pub mod Zero
 pub mod Unique
 pub mod ZeroOne
 pub mod Cancel

@@ -14,7 +14,7 @@ use lib.Ieee.Fits.{up-pos, down-pos}
 use lib.Ieee.Exact.{HasValue, round-exact}
 use lib.Ieee.Back.{round-whole}
 use Rattle.ieee.proofs.Unique.{place, below, in-units, value-unique}
-use Rattle.ieee.specs.Numbers.{IsZero}
+use Rattle.ieee.proofs.Zero.{IsZero}
 use Rattle.ieee.proofs.ZeroOne.{nil, Same, nil-fits, like-false}
 use Rattle.ieee.proofs.Cancel.{div-is, sub-of}
 

@@ -11,7 +11,8 @@ use lib.Ieee.{Float, nan, inf, fin, Format, up, down, unlike, round, sum, add, m
 use lib.Ieee.Fits.{up-pos, down-pos}
 use lib.Ieee.Bits.{is-true}
 use lib.Ieee.Scale.{finite}
-use Rattle.ieee.specs.Numbers.{one, IsZero}
+use Rattle.ieee.specs.Numbers.{one}
+use Rattle.ieee.proofs.Zero.{IsZero}
 use Rattle.ieee.proofs.Unique.{round-self, zero-exp}
 
 -- the two zeros

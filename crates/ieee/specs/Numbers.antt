@@ -1,6 +1,5 @@
--- Zero and one, which both formats hold, and the zeros of either sign.
-use mathlib.Core.Path.{_≡_}
-use mathlib.Core.Bool.{Bool, false}
+-- Zero and one, which both formats hold.
+use mathlib.Core.Bool.{false}
 use lib.IntN.{pos}
 use lib.Ieee.{Float, fin}
 
@@ -9,7 +8,3 @@ zero = fin false 0 (pos 0)
 
 abbrev pub one : Float
 one = fin false 1 (pos 0)
-
--- +0 or -0
-abbrev pub IsZero : Float → Type 0
-IsZero x = (s : Bool) × (x ≡ fin s 0 (pos 0))

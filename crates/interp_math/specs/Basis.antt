@@ -1,4 +1,4 @@
--- The Hermite basis of t and its derivative (01, "The weights"), each operation rounded, in the Rust's order.
+-- The Hermite basis of t and its derivative (clause 4.1), each operation rounded, in the Rust's order.
 use mathlib.Core.List.{List, [], _∷_}
 use lib.ListN.{getD}
 use lib.Ieee.{Float, nan, Format, add, sub, mul, neg}

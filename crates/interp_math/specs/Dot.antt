@@ -1,4 +1,4 @@
--- One step of the reduction (01, "The value"): (w1v1 + w0v0) + (w3v3 + w2v2), every product and sum rounded.
+-- One step of the reduction (clause 5.3): (w1v1 + w0v0) + (w3v3 + w2v2), every product and sum rounded.
 use mathlib.Core.List.{List}
 use Prim.Native.Nat.{ℕ}
 use lib.ListN.{getD}

@@ -1,4 +1,4 @@
--- One lemma about the list of twelve rows: in either format each computes to what 01 gives for it.
+-- One lemma about the list of twelve rows: in either format each computes to what clause 9.1 gives for it.
 use mathlib.Core.Path.{_≡_, refl}
 use mathlib.Core.List.{map}
 use lib.Ieee.{Format, binary32, binary64, sub, div, lt, le}

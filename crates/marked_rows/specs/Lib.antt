@@ -1,2 +1,2 @@
--- The marked rows of paper 01.
+-- The marked cases of clause 9.1.
 pub mod MarkedRows

@@ -1,4 +1,4 @@
--- 01, "Points on both edges": the marked rows R1 to R7 and C1 to C5.
+-- Clause 9.1: the marked cases, seven regular rows and five rectilinear ones.
 use Prim.Native.Nat.{ℕ}
 use mathlib.Core.Bool.{true, false}
 use mathlib.Core.List.{List, [], _∷_}
@@ -29,7 +29,7 @@ abbrev pub locOf : Format → Axis → Float → Loc
 locOf f (regular start step n) x = Regular.locOf f start step n x
 locOf f (rectilinear entries) x = Rectilinear.locOf entries x
 
--- origin and class, or 01's number
+-- origin and class, or the number of clause 2.2
 abbrev pub told : Loc → Told
 told (At p) = place (p .origin) (p .class)
 told Unplaceable = refused (numberOf (placeOutcome 0 0 Unplaceable))
@@ -49,7 +49,7 @@ rectilinearRow x e = record {
   expected = e;
 }
 
--- R1 to R7, then C1 to C5
+-- the regular rows, then the rectilinear ones
 unfoldable pub rows : List Row
 rows =
     regularRow (fin true 1 (negsuc 0)) (place 0 OutsideLow)

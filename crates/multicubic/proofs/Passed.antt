@@ -13,7 +13,7 @@ use Rattle.multicubic.specs.declared.AxesLength.{AxesLength}
 use Rattle.multicubic.specs.Grid.{refuse, lowest, _then_, product, sum, anyOver, misjoined, sizeChecks}
 use Rattle.multicubic.proofs.Sizes.{or-false}
 
-not-accepted : (number query axis : ℕ) → Refused number query axis ≡ Accepted → ⊥
+pub not-accepted : (number query axis : ℕ) → Refused number query axis ≡ Accepted → ⊥
 not-accepted number query axis e = let z : _≡_ {A = ℕ} 0 1 = cc in omega arith
 
 pub then-accepted : (a b : Outcome) → (a then b) ≡ Accepted → (a ≡ Accepted) × (b ≡ Accepted)

@@ -1,4 +1,4 @@
--- 01, "The grid, taken or turned away": checks 1 to 4, over the axis count, the counts and the lengths.
+-- Clauses 2.2 and 2.3: checks 1 to 4, over the axis count, the counts and the lengths.
 use Prim.Native.Nat.{ℕ, suc, _+_, _*_}
 use mathlib.Core.Bool.{Bool, false, not, cond, _||_}
 use mathlib.Core.List.{List, [], _∷_}

@@ -1,4 +1,4 @@
--- 01, "The place (get_loc)": origin and class from L, for an axis of n entries. Each kind of axis has its own L.
+-- Clauses 3.1 and 3.4: origin and class from L, for an axis of n entries. Each kind of axis has its own L.
 use Prim.Native.Nat.{ℕ, zero, suc, _-_, min}
 use mathlib.Core.Bool.{Bool, true, false, cond}
 use mathlib.Core.List.{List, [], _∷_}
@@ -18,12 +18,18 @@ unfoldable pub originOf : ℕ → ℤ → ℕ
 originOf n (negsuc k) = 0
 originOf n (pos l) = min l (n - 4)
 
--- L < -1, L = -1, L = n-3, L > n-3, else None. A rectilinear L is at least -2 and at most n-2, so there L < -1 is L = -2,
--- and L > n-3 is L = n-2.
+-- L < -1, L = -1, L = n-3, L > n-3, else None: the regular list
 unfoldable pub classOf : ℕ → ℤ → Saturation
 classOf n (negsuc zero) = InsideLow
 classOf n (negsuc (suc k)) = OutsideLow
 classOf n (pos l) = cond (eqb l (n - 3)) InsideHigh (cond (ltb (n - 3) l) OutsideHigh None)
+
+-- L = -2, L = -1, L = n-3, L = n-2, else None: the rectilinear list, the same from -2 to n-2 (proofs/Places.antt, `lists-agree`)
+unfoldable pub rectilinearClass : ℕ → ℤ → Saturation
+rectilinearClass n (negsuc zero) = InsideLow
+rectilinearClass n (negsuc (suc zero)) = OutsideLow
+rectilinearClass n (negsuc (suc (suc k))) = None
+rectilinearClass n (pos l) = cond (eqb l (n - 3)) InsideHigh (cond (eqb l (n - 2)) OutsideHigh None)
 
 abbrev pub placeOf : ℕ → ℤ → Place
 placeOf n l = record { origin = originOf n l; class = classOf n l }

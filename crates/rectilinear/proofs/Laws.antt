@@ -1,4 +1,4 @@
--- Demand 3 of each axis of a rectilinear grid that is accepted and within the premises.
+-- Clause 8.3 of each axis of a rectilinear grid that is accepted and within the premises.
 use mathlib.Core.Path.{_≡_}
 use mathlib.Core.Bool.{Bool}
 use mathlib.Core.List.{List, [], _∷_}
@@ -14,8 +14,8 @@ use Rattle.multicubic.specs.Grid.{sum}
 use Rattle.multicubic.specs.Place.{straightOf}
 use Rattle.rectilinear_order.specs.Grid.{axesOf}
 use Rattle.rectilinear_axis.proofs.AtNodes.{at-node}
-use Rattle.grid.specs.Nodes.{Fits}
 use Rattle.grid.proofs.Premises.{NodeLaws, Long}
+use Rattle.grid.specs.Nodes.{Fits}
 use Rattle.grid.proofs.Sizes.{all-long}
 use Rattle.rectilinear_query.specs.Grid.{gridAxes, gridOf, AllPremises}
 use Rattle.rectilinear_query.proofs.Sizes.{part-length, rest-length, passed, joined-length}

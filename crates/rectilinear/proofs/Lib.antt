@@ -1,4 +1,4 @@
--- Demand 3 on a rectilinear grid.
+-- Section 8 on a rectilinear grid.
 pub mod Laws
 pub mod Guarantees
 pub mod Examples

@@ -3,9 +3,10 @@ ghost use mathlib.Core.Path.{_≡_};
 ghost use mathlib.Core.Bool.{Bool};
 ghost use lib.ListN.{length};
 ghost use lib.Ieee.{binary64};
+ghost use Rattle.multicubic.specs.Answers.{Says, answerOutcome, valueIn};
 ghost use Rattle.multicubic.specs.Same.{asAnswer};
 ghost use Rattle.multicubic.specs.declared.EdgeMode.{EdgeMode};
-ghost use Rattle.grid.specs.Query.{find, foundOutcome, outcomeOf, at, placeAnswer, valueAnswer, gradientAnswer};
+ghost use Rattle.grid.specs.Query.{find, foundOutcome, outcomeOf, at, placeAnswer, valueAnswer, valueCarried, gradientAnswer};
 ghost use Rattle.grid.specs.Internal.{Located, gradientTo};
 ghost use Rattle.rectilinear_query.specs.Grid.{checksOf, axesIn, gridOf};
 ghost use Rattle.rectilinear_query.specs.Internal.{Taken, Ready};
@@ -30,6 +31,7 @@ use reduction::strides;
 // Takes a grid or turns it away: checks 1 to 6. The axes are joined one after the other.
 pub fn new(axis_count: usize, counts: [usize; 4], axes: &[f64], vals: &[f64]) -> Outcome
     ensures { λ r. ⌜ r ≡ checksOf «axis_count» counts (now (axes .entry)) (length (now (vals .entry))) ⌝ }
+    ensures { λ r. ⌜ Says r (checksOf «axis_count» counts (now (axes .entry)) (length (now (vals .entry)))) ⌝ }
 {
     let sizes = check_sizes(
         axis_count,
@@ -84,6 +86,7 @@ pub fn get_loc(
     ensures { λ r. ⌜
         ((mode : EdgeMode) → r .places ≡ placeAnswer (gridOf binary64 «axis_count» counts (now (axes .entry)) (now (vals .entry)) mode) (at x))
         ⌝ }
+    ensures { λ r. ⌜ ((mode : EdgeMode) → Says (r .outcome) (outcomeOf (gridOf binary64 «axis_count» counts (now (axes .entry)) (now (vals .entry)) mode) (at x))) ⌝ }
 {
     let checked = new(axis_count, counts, axes, vals);
     match checked {
@@ -105,6 +108,8 @@ pub fn interp_one(
     x: [f64; 4],
 ) -> Answer
     ensures { λ r. ⌜ asAnswer r ≡ valueAnswer binary64 (gridOf binary64 «axis_count» counts (now (axes .entry)) (now (vals .entry)) mode) (at x) ⌝ }
+    ensures { λ r. ⌜ Says (answerOutcome (asAnswer r)) (outcomeOf (gridOf binary64 «axis_count» counts (now (axes .entry)) (now (vals .entry)) mode) (at x)) ⌝ }
+    ensures { λ r. ⌜ valueIn (asAnswer r) ≡ valueCarried binary64 (gridOf binary64 «axis_count» counts (now (axes .entry)) (now (vals .entry)) mode) (at x) ⌝ }
 {
     let checked = new(axis_count, counts, axes, vals);
     match checked {
@@ -190,6 +195,7 @@ pub fn interp_one_grad(
     ensures { λ r. ⌜
         r .gradient ≡ gradientAnswer binary64 (gridOf binary64 «axis_count» counts (now (axes .entry)) (now (vals .entry)) mode) (at x)
         ⌝ }
+    ensures { λ r. ⌜ Says (r .outcome) (outcomeOf (gridOf binary64 «axis_count» counts (now (axes .entry)) (now (vals .entry)) mode) (at x)) ⌝ }
 {
     let checked = new(axis_count, counts, axes, vals);
     match checked {

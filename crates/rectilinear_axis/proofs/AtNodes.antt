@@ -1,4 +1,4 @@
--- 01, demand 3, on one rectilinear axis within the premises: at node i the query is placed, with L = i - 2, and its row of weights is
+-- Clause 8.3 on one rectilinear axis within the premises: at node i the query is placed, with L = i - 2, and its row of weights is
 -- one at the node's place in the block.
 use mathlib.Core.Path.{_≡_, refl, sym, ap, _∙_, subst}
 use mathlib.Core.Logic.{inl, inr}
@@ -18,14 +18,19 @@ use Rattle.multicubic.specs.declared.Loc.the-variants.{At}
 use Rattle.multicubic.specs.declared.Saturation.{Saturation}
 use Rattle.multicubic.specs.declared.Saturation.the-variants.{None, InsideLow, OutsideLow, InsideHigh}
 use Rattle.multicubic.specs.declared.Place.{Place}
-use Rattle.multicubic.specs.Place.{placeOf, outcomeAt}
-use Rattle.multicubic.specs.Nodes.{OneAt, AtNode}
+use Rattle.multicubic.specs.Place.{placeOf, AxisOutcome, outcomeAt}
+use Rattle.multicubic.proofs.Nodes.{OneAt, AtNode}
 use Rattle.multicubic.proofs.Places.{outside-low, inside-low, interior, inside-high}
-use Rattle.rectilinear_axis.specs.Weights.{weightsOf}
-use Rattle.rectilinear_axis.specs.Nodes.{Premises, weightsAt, derivativesAt, outcomeOf}
+use Rattle.rectilinear_axis.specs.Place.{locOf}
+use Rattle.rectilinear_axis.specs.Weights.{weightsOf, weightsAt, derivativesAt}
+use Rattle.rectilinear_axis.specs.Nodes.{Premises}
 use Rattle.rectilinear_axis.proofs.Cell.{entries}
 use Rattle.rectilinear_axis.proofs.Blocks.{Held, Gap, first, second, mid, last}
 use Rattle.rectilinear_axis.proofs.Count.{entry, counted}
+
+-- the outcome of an axis for a query
+abbrev pub outcomeOf : Format → List Float → Bool → Float → AxisOutcome
+outcomeOf f g straight x = outcomeAt (weightsAt f g straight x) (derivativesAt f g straight x) (locOf g x)
 
 abbrev block : ℕ → Saturation → Place
 block o c = record { origin = o; class = c }

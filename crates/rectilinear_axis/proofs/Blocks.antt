@@ -9,7 +9,7 @@ use Rattle.ieee.proofs.ZeroOne.{Same, same-trans}
 use Rattle.ieee.proofs.Cancel.{neg-zero, neg-same, sub-self-nil, sub-swap, sub-same-left, sub-same-zero, div-same-one, div-zero}
 use Rattle.ieee.proofs.Bound.{Between}
 use Rattle.multicubic.specs.declared.Saturation.the-variants.{None, InsideLow, OutsideLow, InsideHigh}
-use Rattle.multicubic.specs.Nodes.{OneAt}
+use Rattle.multicubic.proofs.Nodes.{OneAt}
 use Rattle.rectilinear_weights.specs.Weights.{lowOf}
 use Rattle.rectilinear_axis.specs.Weights.{weightsOf}
 use Rattle.rectilinear_weights.proofs.Slopes.{one-between, ratio, slopes}

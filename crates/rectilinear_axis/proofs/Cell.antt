@@ -7,7 +7,7 @@ use native.Mathlib.Omega.{arith}
 use lib.ListN.{length, getD}
 use lib.Seq.{drop-cons}
 use lib.Ieee.{Float, nan}
-use Rattle.rectilinear_axis.specs.Nodes.{cellOf}
+use Rattle.rectilinear_axis.specs.Weights.{cellOf}
 
 module _ (g : List Float) (o : ℕ) (h : o + 4 ≤ length g) where
   pub entries : cellOf g o ≡ getD g o nan ∷ getD g (suc o) nan ∷ getD g (suc (suc o)) nan ∷ getD g (suc (suc (suc o))) nan ∷ []

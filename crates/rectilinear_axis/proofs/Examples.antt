@@ -7,10 +7,10 @@ use lib.IntN.{pos, negsuc, _-ℤ_}
 use lib.Dec.{T, lit<, lit≤}
 use lib.ListN.{length, getD}
 use lib.Ieee.{Float, nan, fin, Format, binary32, binary64, sub, le, eq, fits}
-use Rattle.multicubic.specs.Nodes.{AtNode}
-use Rattle.rectilinear_axis.specs.Nodes.{Premises, outcomeOf}
+use Rattle.multicubic.proofs.Nodes.{AtNode}
+use Rattle.rectilinear_axis.specs.Nodes.{Premises}
 use Rattle.rectilinear_weights.proofs.Rows.{each}
-use Rattle.rectilinear_axis.proofs.AtNodes.{at-node}
+use Rattle.rectilinear_axis.proofs.AtNodes.{at-node, outcomeOf}
 
 abbrev pub axis : List Float
 axis = fin false 0 (pos 0) ∷ fin false 1 (pos 0) ∷ fin false 1 (pos 1) ∷ fin false 1 (pos 2) ∷ fin false 7 (pos 0) ∷ []

@@ -1,5 +1,6 @@
 -- Laws of the definitions, beyond the functions' own proofs.
 pub mod Search
+pub mod Said
 pub mod Cell
 pub mod Blocks
 pub mod Count

@@ -12,7 +12,7 @@ use mir.Val.{boolByte}
 use Rattle.ieee.proofs.Order.{le-lt-trans}
 use Rattle.rectilinear_order.specs.Grid.{disorder}
 use Rattle.rectilinear_axis.specs.Place.{countBelow}
-use Rattle.rectilinear_axis.specs.Search.{Test, Forward}
+use Rattle.rectilinear_axis.specs.Internal.{Test, Forward}
 use Rattle.rectilinear_order.proofs.Order.{ordered, both, not-true}
 
 abbrev pub Below : List Float → Float → ℕ → Type 0

@@ -1,5 +1,5 @@
--- One rectilinear axis as paper 01 defines it: its entries.
+-- One rectilinear axis: its entries.
 pub mod Place
-pub mod Search
 pub mod Weights
 pub mod Nodes
+pub mod Internal

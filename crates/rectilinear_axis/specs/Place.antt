@@ -1,13 +1,14 @@
--- 01, "The place (get_loc)", rectilinear. A NaN query has no entry below it.
+-- Clause 3.2: the place on a rectilinear axis. A NaN query has no entry below it.
 use Prim.Native.Nat.{ℕ, suc}
 use mathlib.Core.Bool.{cond}
 use mathlib.Core.List.{List, [], _∷_}
 use lib.IntN.{pos, _-ℤ_}
 use lib.ListN.{length}
 use lib.Ieee.{Float, lt}
+use Rattle.multicubic.specs.declared.Place.{Place}
 use Rattle.multicubic.specs.declared.Loc.{Loc}
 use Rattle.multicubic.specs.declared.Loc.the-variants.{At}
-use Rattle.multicubic.specs.Place.{placeOf}
+use Rattle.multicubic.specs.Place.{originOf, rectilinearClass, placeOf}
 
 -- the number of entries below the query
 abbrev pub countBelow : Float → List Float → ℕ
@@ -17,3 +18,9 @@ countBelow x (y ∷ ys) = cond (lt y x) (suc (countBelow x ys)) (countBelow x ys
 -- L is the number of entries below the query, minus 2
 abbrev pub locOf : List Float → Float → Loc
 locOf g x = At (placeOf (length g) (pos (countBelow x g) -ℤ pos 2))
+
+-- its place told by itself, the class by the rectilinear list
+abbrev pub locPlace : List Float → Float → List Place
+locPlace g x =
+    let l = pos (countBelow x g) -ℤ pos 2 in
+    record { origin = originOf (length g) l; class = rectilinearClass (length g) l } ∷ []

@@ -1,11 +1,12 @@
--- 01, "The weights", rectilinear, by the class of the place. g is the block's four entries.
+-- Clauses 4.2, 4.4 and 4.8, rectilinear, by the class of the place. g is the block's four entries.
 use Prim.Native.Nat.{ℕ}
 use mathlib.Core.Bool.{Bool, false}
 use mathlib.Core.List.{List}
-use lib.ListN.{getD}
+use lib.ListN.{getD, take, drop}
 use lib.Ieee.{Float, nan, Format, sub, div, neg}
 use Rattle.ieee.specs.Numbers.{one}
 use Rattle.interp_math.specs.Basis.{hermiteBasis, hermiteBasisDerivative, scaled}
+use Rattle.multicubic.specs.declared.Place.{Place}
 use Rattle.multicubic.specs.declared.Saturation.{Saturation}
 use Rattle.multicubic.specs.declared.Saturation.the-variants.{None, InsideLow, OutsideLow, InsideHigh, OutsideHigh}
 use Rattle.rectilinear_weights.specs.Weights.{centeredDifference, interior, lowOf, lowSlopeOf, highOf, highSlopeOf}
@@ -52,3 +53,14 @@ derivativesOf f InsideLow straight g x = scaled f (div f (neg one) (gap f g 0 1)
 derivativesOf f OutsideLow straight g x = scaled f (div f (neg one) (gap f g 0 1)) (lowSlopeOf f (tLow f g x) (ratioLow f g) straight)
 derivativesOf f InsideHigh straight g x = scaled f (div f one (gap f g 2 3)) (highSlopeOf f (tHigh f g x) (ratioHigh f g) false)
 derivativesOf f OutsideHigh straight g x = scaled f (div f one (gap f g 2 3)) (highSlopeOf f (tHigh f g x) (ratioHigh f g) straight)
+
+-- the block's four entries
+abbrev pub cellOf : List Float → ℕ → List Float
+cellOf g origin = take 4 (drop origin g)
+
+-- the weights and derivative weights of a query at a place
+abbrev pub weightsAt : Format → List Float → Bool → Float → Place → List Float
+weightsAt f g straight x p = weightsOf f (p .class) straight (cellOf g (p .origin)) x
+
+abbrev pub derivativesAt : Format → List Float → Bool → Float → Place → List Float
+derivativesAt f g straight x p = derivativesOf f (p .class) straight (cellOf g (p .origin)) x

@@ -5,10 +5,10 @@ ghost use Prim.Native.Nat.{_+_, _*_, _≤_, _<_};
 ghost use lib.ListN.{length};
 ghost use lib.Ieee.{binary64};
 ghost use Rattle.rectilinear_order.specs.Grid.{disorder};
-ghost use Rattle.rectilinear_axis.specs.Place.{countBelow, locOf};
-ghost use Rattle.rectilinear_axis.specs.Search.{Test, Forward};
-ghost use Rattle.rectilinear_axis.specs.Weights.{weightsOf, derivativesOf};
-ghost use Rattle.rectilinear_axis.specs.Nodes.{cellOf, weightsAt, derivativesAt};
+ghost use Rattle.multicubic.specs.Answers.{numberOf, placeOutcome, placeIn};
+ghost use Rattle.rectilinear_axis.specs.Place.{countBelow, locOf, locPlace};
+ghost use Rattle.rectilinear_axis.specs.Internal.{Test, Forward};
+ghost use Rattle.rectilinear_axis.specs.Weights.{weightsOf, derivativesOf, cellOf, weightsAt, derivativesAt};
 use interp_math::hermite_basis;
 use interp_math::hermite_basis_derivative;
 use interp_math::scale_weights;
@@ -81,6 +81,8 @@ pub fn get_loc(grid: &[f64], v: f64) -> Loc
     requires { ⌜ 4 ≤ length (now grid) ⌝ }
     requires { ⌜ disorder (now grid) ≡ false ⌝ }
     ensures { λ r. ⌜ r ≡ locOf (now (grid .entry)) v ⌝ }
+    ensures { λ r. ⌜ numberOf (placeOutcome 0 0 r) ≡ 0 ⌝ }
+    ensures { λ r. ⌜ placeIn r ≡ locPlace (now (grid .entry)) v ⌝ }
 {
     let n = grid.len();
     Loc::At(place_from(n, partition_point(grid, v)))

@@ -1,11 +1,13 @@
-// Demand 3 said of the calls on a rectilinear grid: two tables on the same axes, each with its own values and setting, asked alone and in a batch.
+// Section 8 said of the calls on a rectilinear grid: two tables on the same axes, each with its own values and setting, asked alone and in a batch.
+ghost use mathlib.Core.Path.{_≡_};
 ghost use lib.ListN.{take};
 ghost use lib.Ieee.{binary64};
 ghost use Rattle.multicubic.specs.Same.{asAnswer};
 ghost use Rattle.grid.specs.Query.{at};
+ghost use Rattle.grid.specs.Batch.{interpOutcome};
 ghost use Rattle.rectilinear_order.specs.Grid.{axesOf};
 ghost use Rattle.rectilinear_query.specs.Grid.{gridOf, AllPremises};
-ghost use Rattle.guarantees.specs.Statements.{OwedAlone, OwedInBatch};
+ghost use Rattle.guarantees.specs.Statements.{AnswersOf, BuffersOf, OwedAlone, OwedInBatch};
 use guarantees::TwoTables;
 use multicubic::EdgeMode;
 use multicubic::Outcome;
@@ -26,6 +28,10 @@ pub fn alone(
         (gridOf binary64 «axis_count» counts (now (axes .entry)) (now («other_vals» .entry)) «other_mode»)
         (at x) (asAnswer (r .value)) (asAnswer (r .«other_value»))
         (r .gradient .outcome) (r .«other_gradient» .outcome) (r .gradient .gradient) (r .«other_gradient» .gradient) ⌝ }
+    ensures { λ r. ⌜ AnswersOf binary64 (gridOf binary64 «axis_count» counts (now (axes .entry)) (now (vals .entry)) mode) (at x)
+        (asAnswer (r .value)) (r .gradient .outcome) (r .gradient .gradient) ⌝ }
+    ensures { λ r. ⌜ AnswersOf binary64 (gridOf binary64 «axis_count» counts (now (axes .entry)) (now («other_vals» .entry)) «other_mode») (at x)
+        (asAnswer (r .«other_value»)) (r .«other_gradient» .outcome) (r .«other_gradient» .gradient) ⌝ }
 {
     let value = rectilinear::interp_one(axis_count, counts, axes, vals, mode, x);
     let gradient = rectilinear::interp_one_grad(axis_count, counts, axes, vals, mode, x);
@@ -66,6 +72,12 @@ pub fn in_batch(
         (gridOf binary64 «axis_count» counts (now (axes .entry)) (now («other_vals» .entry)) «other_mode»)
         (now (queries .entry)) r (now (out .entry)) (now (out .exit)) (now («other_out» .entry)) (now («other_out» .exit))
         (now (grad .entry)) (now (grad .exit)) (now («other_grad» .entry)) (now («other_grad» .exit)) ⌝ }
+    ensures { λ r. ⌜ r ≡ interpOutcome binary64 (gridOf binary64 «axis_count» counts (now (axes .entry)) (now (vals .entry)) mode)
+        (now (queries .entry)) (now (out .entry)) ⌝ }
+    ensures { λ r. ⌜ BuffersOf binary64 (gridOf binary64 «axis_count» counts (now (axes .entry)) (now (vals .entry)) mode)
+        (now (queries .entry)) (now (out .entry)) (now (out .exit)) (now (grad .entry)) (now (grad .exit)) ⌝ }
+    ensures { λ r. ⌜ BuffersOf binary64 (gridOf binary64 «axis_count» counts (now (axes .entry)) (now («other_vals» .entry)) «other_mode»)
+        (now (queries .entry)) (now («other_out» .entry)) (now («other_out» .exit)) (now («other_grad» .entry)) (now («other_grad» .exit)) ⌝ }
 {
     let outcome = rectilinear_batch::interp(axis_count, counts, axes, vals, mode, queries, out);
     rectilinear_batch::interp_grad(axis_count, counts, axes, vals, mode, queries, grad);

@@ -1,4 +1,4 @@
--- 01, "The grid, taken or turned away", rectilinear: checks 5 and 6, each over all axes before the next.
+-- Clauses 2.2 and 2.3, rectilinear: checks 5 and 6, each over all axes before the next.
 use Prim.Native.Nat.{ℕ}
 use mathlib.Core.Bool.{Bool, false, not, _||_}
 use mathlib.Core.List.{List, [], _∷_}

@@ -1,3 +1,3 @@
--- Checks 5 and 6 of a rectilinear grid, as paper 01 defines them.
+-- Checks 5 and 6 of a rectilinear grid.
 pub mod Grid
-pub mod Faults
+pub mod Internal

@@ -4,7 +4,7 @@ ghost use Prim.Native.Nat.{ℕ, _≤_, _<_};
 ghost use lib.ListN.{length, getD, take};
 ghost use Rattle.multicubic.specs.Grid.{sum, lowest};
 ghost use Rattle.rectilinear_order.specs.Grid.{axesOf, notRising, disorder, orderChecks};
-ghost use Rattle.rectilinear_order.specs.Faults.{faultOf};
+ghost use Rattle.rectilinear_order.specs.Internal.{faultOf};
 use multicubic::Outcome;
 
 // Check 5 on one axis: entry 1 is not above entry 0.
@@ -85,15 +85,7 @@ pub fn check_order(axis_count: usize, counts: [usize; 4], axes: &[f64]) -> Outco
 {
     let rising = first_faulty(axis_count, counts, axes, false, 5);
     match rising {
-        Outcome::Refused {
-            number,
-            query,
-            axis,
-        } => Outcome::Refused {
-            number,
-            query,
-            axis,
-        },
+        Outcome::Refused { .. } => rising,
         Outcome::Accepted => first_faulty(axis_count, counts, axes, true, 6),
     }
 }

@@ -18,7 +18,8 @@ use Rattle.multicubic.proofs.Passed.{Passed, then-accepted, lowest-accepted}
 use Rattle.rectilinear_order.specs.Grid.{axesOf, notRising, disorder, orderChecks}
 use Rattle.rectilinear_axis.specs.Place.{countBelow}
 use Rattle.reduction.specs.Value.{stridesOf}
-use Rattle.grid.specs.Query.{noAxis as noGridAxis, countsOf as gridCounts}
+use Rattle.grid.specs.Query.{countsOf as gridCounts}
+use Rattle.grid.specs.Internal.{noAxis as noGridAxis}
 use Rattle.grid.specs.Nodes.{All}
 use Rattle.grid.proofs.Premises.{Long}
 use Rattle.grid.proofs.Sizes.{all-long, each-long}

@@ -1,4 +1,4 @@
--- 01, "The grid, taken or turned away", rectilinear: the axes are joined, and an axis is a part of them.
+-- Section 2, rectilinear: the axes are joined, and an axis is a part of them.
 use Prim.Native.Nat.{ℕ}
 use mathlib.Core.Bool.{Bool}
 use mathlib.Core.List.{List, map}
@@ -11,7 +11,8 @@ use Rattle.multicubic.specs.Grid.{_then_, sizeChecks}
 use Rattle.multicubic.specs.Place.{straightOf}
 use Rattle.rectilinear_order.specs.Grid.{axesOf, orderChecks}
 use Rattle.rectilinear_axis.specs.Place.{locOf}
-use Rattle.rectilinear_axis.specs.Nodes.{Premises, weightsAt, derivativesAt}
+use Rattle.rectilinear_axis.specs.Nodes.{Premises}
+use Rattle.rectilinear_axis.specs.Weights.{weightsAt, derivativesAt}
 use Rattle.grid.specs.Query.{GridAxis, Grid}
 use Rattle.grid.specs.Nodes.{All}
 

@@ -1,3 +1,3 @@
--- A rectilinear grid as paper 01 defines it, and what internal functions ask of each other.
+-- A rectilinear grid, and what internal functions ask of each other.
 pub mod Grid
 pub mod Internal

@@ -7,13 +7,14 @@ use native.Mathlib.Omega.{arith}
 use lib.Dec.{lit<, lit≤}
 use lib.ListN.{getD}
 use lib.Ieee.{Float, nan, Format, sub, mul, neg}
-use Rattle.ieee.specs.Numbers.{zero as nought, one, IsZero}
+use Rattle.ieee.specs.Numbers.{zero as nought, one}
+use Rattle.ieee.proofs.Zero.{IsZero}
 use Rattle.ieee.proofs.ZeroOne.{add-zeros, mul-zero-left, mul-zero-right}
 use Rattle.ieee.proofs.Cancel.{sub-zeros, one-add, one-sub}
 use Rattle.ieee.proofs.Bound.{neg-upto, add-upto}
 use Rattle.interp_math.specs.Basis.{two, hermiteBasis}
 use Rattle.interp_math.proofs.AtNodes.{basis-one, basis-zero}
-use Rattle.multicubic.specs.Nodes.{OneAt}
+use Rattle.multicubic.proofs.Nodes.{OneAt}
 use Rattle.rectilinear_weights.specs.Weights.{interior, cubicLow, cubicHigh, straightLow}
 use Rattle.rectilinear_weights.proofs.Slopes.{most, two-upto, Small}
 

@@ -1,2 +1,2 @@
--- The weights of a block on a rectilinear axis as paper 01 defines them, by t.
+-- The weights of a block on a rectilinear axis by t.
 pub mod Weights

@@ -1,4 +1,4 @@
--- 01, "The weights", rectilinear, by t: each operation rounded, in the Rust's order. h is the basis h00, h10, h01, h11, or its derivative;
+-- Clauses 4.4, 4.6 and 4.8, rectilinear, by t: each operation rounded, in the Rust's order. h is the basis h00, h10, h01, h11, or its derivative;
 -- k, k0 and k1 are three-point slopes.
 use mathlib.Core.Bool.{Bool, true, false}
 use mathlib.Core.List.{List, [], _∷_}

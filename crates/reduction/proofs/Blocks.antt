@@ -1,4 +1,4 @@
--- Demand 3 of the reduction: two tables that agree in the block give the same result, also with a replaced row; rows that are one at a
+-- Section 8 of the reduction: two tables that agree in the block give the same result, also with a replaced row; rows that are one at a
 -- node's place give the number stored there. The axis count is a parameter.
 use mathlib.Core.Path.{_≡_, refl, sym, ap, _∙_, subst}
 use mathlib.Core.List.{List, [], _∷_}
@@ -9,14 +9,14 @@ use lib.Dec.{T, lit<}
 use lib.ListN.{length, getD, set, length-set}
 use lib.Ieee.{Float, nan, Format, mul, eq, fits}
 use lib.Ieee.Scale.{finite}
-use Rattle.ieee.specs.Numbers.{IsZero}
+use Rattle.ieee.proofs.Zero.{IsZero}
 use Rattle.ieee.proofs.ZeroOne.{Same, same-trans, same-finite, same-fits, mul-one-left, mul-zero-left, add-zeros, add-same-zero, add-zero-same}
 use Rattle.ieee.proofs.Cancel.{same→eq}
 use Rattle.interp_math.specs.Dot.{dot4}
 use Rattle.reduction.specs.Value.{block, four, reduceOf}
 use Rattle.reduction.specs.Gradient.{componentOf}
-use Rattle.multicubic.specs.Nodes.{OneAt}
-use Rattle.reduction.specs.Nodes.{OneAtEach, InBlock}
+use Rattle.multicubic.proofs.Nodes.{OneAt}
+use Rattle.reduction.specs.Nodes.{InBlock}
 use Rattle.reduction.proofs.Reduction.{step, reduce-agree}
 
 -- ---- only the block
@@ -32,6 +32,13 @@ component-of-block f ws d row ss os vals vals' same =
     value-of-block f (set ws d row) ss os vals vals' (subst (λ (n : ℕ). SameBlock n ss os vals vals') (sym (length-set ws d row)) same)
 
 -- ---- one at a node's place
+-- each axis's row is one at its own place
+abbrev pub OneAtEach : List ℕ → List (List Float) → Type 0
+OneAtEach [] [] = Unit
+OneAtEach (j ∷ js) (w ∷ ws) = OneAt j w × OneAtEach js ws
+OneAtEach [] (w ∷ ws) = ⊥
+OneAtEach (j ∷ js) [] = ⊥
+
 -- finite, and held by the format
 abbrev pub Held : Format → Float → Type 0
 Held f v = T (finite v) × T (fits f v)

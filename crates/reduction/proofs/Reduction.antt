@@ -10,7 +10,8 @@ use lib.ListN.{length, getD, take}
 use lib.Seq.{take-suc, length-take-le}
 use lib.Ieee.{Float, nan, Format}
 use Rattle.interp_math.specs.Dot.{dot4}
-use Rattle.reduction.specs.Value.{offset, shifted, block, reach, from, four, reduceOf}
+use Rattle.reduction.specs.Value.{offset, shifted, block, four, reduceOf}
+use Rattle.reduction.specs.Internal.{reach, from}
 use Rattle.reduction.specs.Nodes.{InBlock}
 
 -- one step: the values after axis 0 is summed

@@ -1,4 +1,4 @@
--- 01, "The gradient (interp_one_grad)".
+-- Clause 6.1.
 use Prim.Native.Nat.{ℕ}
 use mathlib.Core.List.{List}
 use lib.ListN.{set}

@@ -1,4 +1,5 @@
--- The value and the gradient of a block, as paper 01 defines them.
+-- The value and the gradient of a block.
 pub mod Value
 pub mod Gradient
 pub mod Nodes
+pub mod Internal

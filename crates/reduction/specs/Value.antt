@@ -1,4 +1,4 @@
--- 01, "The value (dot4, interp_one)": where a value is stored, and the reduction of a block.
+-- Clauses 5.1 and 5.3: where a value is stored, and the reduction of a block.
 use Prim.Native.Nat.{ℕ, _+_, _*_}
 use mathlib.Core.List.{List, [], _∷_}
 use lib.ListN.{getD}
@@ -39,12 +39,3 @@ four g = g 0 ∷ g 1 ∷ g 2 ∷ g 3 ∷ []
 unfoldable pub reduceOf : Format → List (List Float) → (List ℕ → Float) → Float
 reduceOf f [] v = v []
 reduceOf f (w ∷ ws) v = reduceOf f ws (λ js. dot4 f w (four (λ j. v (j ∷ js))))
-
--- the same block read from its first value's index on, as the code does
-abbrev pub from : List Float → List ℕ → ℕ → List ℕ → Float
-from vals strides base js = getD vals (base + offset js strides) nan
-
--- how far past that index the block reaches
-abbrev pub reach : List ℕ → ℕ
-reach [] = 0
-reach (s ∷ ss) = 3 * s + reach ss

@@ -5,7 +5,8 @@ ghost use Prim.Native.Nat.{_+_, _*_, _≤_, _<_};
 ghost use lib.Ieee.{binary64};
 ghost use lib.ListN.{length, getD, take};
 ghost use Rattle.multicubic.specs.Grid.{anyOver};
-ghost use Rattle.reduction.specs.Value.{stridesOf, from, reduceOf};
+ghost use Rattle.reduction.specs.Value.{stridesOf, reduceOf};
+ghost use Rattle.reduction.specs.Internal.{from};
 use interp_math::dot4;
 
 // The strides of the first n axes, the last axis fastest.

@@ -1,4 +1,4 @@
--- Demand 3 on a regular grid, of the definitions. The laws of `grid` on batches and blocks apply by `node-case`, `alike` and `axes-counted`.
+-- Section 8 on a regular grid, of the definitions. The laws of `grid` on batches and blocks apply by `node-case`, `alike` and `axes-counted`.
 use mathlib.Core.Path.{_≡_, refl}
 use mathlib.Core.List.{List}
 use Prim.Native.Nat.{ℕ, _≤_}

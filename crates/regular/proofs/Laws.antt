@@ -1,4 +1,4 @@
--- Demand 3 of each axis of a regular grid that is accepted and within the premises.
+-- Clause 8.3 of each axis of a regular grid that is accepted and within the premises.
 use mathlib.Core.Path.{_≡_, sym, subst}
 use mathlib.Core.Bool.{Bool, false}
 use mathlib.Core.List.{List, [], _∷_}

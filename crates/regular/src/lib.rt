@@ -5,9 +5,10 @@ ghost use Prim.Native.Nat.{_≤_};
 ghost use lib.ListN.{length, take};
 ghost use lib.Ieee.{binary64};
 ghost use Rattle.multicubic.specs.Grid.{lowest};
+ghost use Rattle.multicubic.specs.Answers.{Says, answerOutcome, valueIn};
 ghost use Rattle.multicubic.specs.Same.{asAnswer};
 ghost use Rattle.multicubic.specs.declared.EdgeMode.{EdgeMode};
-ghost use Rattle.grid.specs.Query.{find, foundOutcome, outcomeOf, at, placeAnswer, valueAnswer, gradientAnswer};
+ghost use Rattle.grid.specs.Query.{find, foundOutcome, outcomeOf, at, placeAnswer, valueAnswer, valueCarried, gradientAnswer};
 ghost use Rattle.grid.specs.Internal.{Located, gradientTo};
 ghost use Rattle.regular_query.specs.Grid.{notRising, checksOf, axesIn, gridOf};
 ghost use Rattle.regular_query.specs.Internal.{Taken, Ready};
@@ -54,6 +55,7 @@ fn first_not_rising(axis_count: usize, axes: [Axis; 4]) -> Outcome
 // Takes a grid or turns it away: checks 1 to 5.
 pub fn new(axis_count: usize, axes: [Axis; 4], vals: &[f64]) -> Outcome
     ensures { λ r. ⌜ r ≡ checksOf «axis_count» axes (length (now (vals .entry))) ⌝ }
+    ensures { λ r. ⌜ Says r (checksOf «axis_count» axes (length (now (vals .entry)))) ⌝ }
 {
     let sizes = check_sizes(axis_count, counts_of(axes), vals.len(), AxesLength::Regular);
     match sizes {
@@ -94,6 +96,7 @@ pub fn get_loc(axis_count: usize, axes: [Axis; 4], vals: &[f64], x: [f64; 4]) ->
     ensures { λ r. ⌜
         ((mode : EdgeMode) → r .places ≡ placeAnswer (gridOf binary64 «axis_count» axes (now (vals .entry)) mode) (at x))
         ⌝ }
+    ensures { λ r. ⌜ ((mode : EdgeMode) → Says (r .outcome) (outcomeOf (gridOf binary64 «axis_count» axes (now (vals .entry)) mode) (at x))) ⌝ }
 {
     let checked = new(axis_count, axes, vals);
     match checked {
@@ -114,6 +117,8 @@ pub fn interp_one(
     x: [f64; 4],
 ) -> Answer
     ensures { λ r. ⌜ asAnswer r ≡ valueAnswer binary64 (gridOf binary64 «axis_count» axes (now (vals .entry)) mode) (at x) ⌝ }
+    ensures { λ r. ⌜ Says (answerOutcome (asAnswer r)) (outcomeOf (gridOf binary64 «axis_count» axes (now (vals .entry)) mode) (at x)) ⌝ }
+    ensures { λ r. ⌜ valueIn (asAnswer r) ≡ valueCarried binary64 (gridOf binary64 «axis_count» axes (now (vals .entry)) mode) (at x) ⌝ }
 {
     let checked = new(axis_count, axes, vals);
     match checked {
@@ -191,6 +196,7 @@ pub fn interp_one_grad(
 ) -> GradientAnswer
     ensures { λ r. ⌜ r .outcome ≡ outcomeOf (gridOf binary64 «axis_count» axes (now (vals .entry)) mode) (at x) ⌝ }
     ensures { λ r. ⌜ r .gradient ≡ gradientAnswer binary64 (gridOf binary64 «axis_count» axes (now (vals .entry)) mode) (at x) ⌝ }
+    ensures { λ r. ⌜ Says (r .outcome) (outcomeOf (gridOf binary64 «axis_count» axes (now (vals .entry)) mode) (at x)) ⌝ }
 {
     let checked = new(axis_count, axes, vals);
     match checked {

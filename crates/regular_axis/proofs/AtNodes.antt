@@ -18,15 +18,19 @@ use Rattle.ieee.proofs.Multiple.{Is, diff, is-zero, is-pos, is-neg}
 use Rattle.multicubic.specs.declared.Saturation.{Saturation}
 use Rattle.multicubic.specs.declared.Saturation.the-variants.{None, InsideLow, InsideHigh, OutsideHigh}
 use Rattle.multicubic.specs.declared.Loc.the-variants.{At}
-use Rattle.multicubic.specs.Place.{placeOf, outcomeAt}
-use Rattle.multicubic.specs.Nodes.{OneAt, AtNode}
+use Rattle.multicubic.specs.Place.{placeOf, AxisOutcome, outcomeAt}
+use Rattle.multicubic.proofs.Nodes.{OneAt, AtNode}
 use Rattle.multicubic.proofs.Places.{inside-low, interior, inside-high, outside-high}
-use Rattle.regular_axis.specs.Place.{quotient}
-use Rattle.regular_axis.specs.Weights.{node, tOf, weightsOf, derivativesOf}
-use Rattle.regular_axis.specs.Nodes.{Premises, weightsAt, derivativesAt, outcomeOf}
+use Rattle.regular_axis.specs.Place.{quotient, locOf}
+use Rattle.regular_axis.specs.Weights.{node, tOf, weightsOf, derivativesOf, weightsAt, derivativesAt}
+use Rattle.regular_axis.specs.Nodes.{Premises}
 use Rattle.regular_axis.proofs.Floor.{less-one, loc-whole}
 use Rattle.regular_axis.proofs.Rows.{row-low, row-mid, row-high, row-top}
 use Rattle.regular_axis.proofs.Exact.{is-finite, node-is, quotient-is, t-is}
+
+-- the outcome of an axis for a query
+abbrev pub outcomeOf : Format → Float → Float → ℕ → Bool → Float → AxisOutcome
+outcomeOf f start step n straight x = outcomeAt (weightsAt f start step straight x) (derivativesAt f start step straight x) (locOf f start step n x)
 
 two-fits : (f : Format) → T (fits f (fin false 1 (pos 1)))
 unfolding fits

@@ -4,9 +4,9 @@ use mathlib.Core.Bool.{Bool, true, false}
 use lib.IntN.{pos, negsuc}
 use lib.Dec.{lit<, lit≤}
 use lib.Ieee.{Float, fin, Format, binary32, binary64, add, mul, ofInt, fits, eq}
-use Rattle.multicubic.specs.Nodes.{AtNode}
-use Rattle.regular_axis.specs.Nodes.{Premises, outcomeOf}
-use Rattle.regular_axis.proofs.AtNodes.{at-node}
+use Rattle.multicubic.proofs.Nodes.{AtNode}
+use Rattle.regular_axis.specs.Nodes.{Premises}
+use Rattle.regular_axis.proofs.AtNodes.{at-node, outcomeOf}
 
 abbrev pub start : Float
 start = fin true 3 (negsuc 1)

@@ -1,4 +1,4 @@
--- The floor of a quotient, and the place that follows from it: what 01 says of both, and what `get_loc` computes.
+-- The floor of a quotient, and the place that follows from it: what clauses 3.3 to 3.5 say of both, and what `get_loc` computes.
 use mathlib.Core.Path.{_≡_, refl, sym, ap, _∙_}
 use mathlib.Core.Bool.{true, false, cond, true≢false, or-true}
 use Prim.Native.Nat.{ℕ, zero, suc, _+_, _-_, _*_, _/_, _^_, _≤_, _<_}

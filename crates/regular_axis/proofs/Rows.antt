@@ -12,7 +12,7 @@ use borrow.Author.Tests.{eq-eqb, ne-eqb}
 use Rattle.ieee.specs.Numbers.{one}
 use Rattle.interp_math.specs.Basis.{hermiteBasis}
 use Rattle.multicubic.specs.declared.Saturation.the-variants.{None, InsideLow, InsideHigh, OutsideHigh}
-use Rattle.multicubic.specs.Nodes.{OneAt}
+use Rattle.multicubic.proofs.Nodes.{OneAt}
 use Rattle.regular_axis.specs.Weights.{interior, cubicEnd, straightEnd, weightsOf}
 
 -- one at place j, zeros of the given signs elsewhere

@@ -1,4 +1,4 @@
--- One regular axis as paper 01 defines it: its start, its step and its count.
+-- One regular axis: its start, its step and its count.
 pub mod Place
 pub mod Weights
 pub mod Nodes

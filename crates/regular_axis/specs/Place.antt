@@ -1,9 +1,11 @@
--- 01, "The place (get_loc)", regular.
+-- Clauses 3.3 and 3.5: the place on a regular axis.
 use Prim.Native.Nat.{ℕ, _+_, _-_, _*_, _/_}
 use mathlib.Core.Bool.{Bool, true, false, not, cond, _||_}
+use mathlib.Core.List.{List, [], _∷_}
 use lib.IntN.{ℤ, pos, negℤ, _-ℤ_}
 use lib.Ieee.{Float, nan, inf, fin, Format, up, down, sub, div, lt, le}
 use lib.Ieee.Scale.{finite}
+use Rattle.multicubic.specs.declared.Place.{Place}
 use Rattle.multicubic.specs.declared.Loc.{Loc}
 use Rattle.multicubic.specs.declared.Loc.the-variants.{At, Unplaceable}
 use Rattle.multicubic.specs.Place.{placeOf}
@@ -29,3 +31,12 @@ abbrev pub locOf : Format → Float → Float → ℕ → Float → Loc
 locOf f start step n x =
     let q = quotient f start step x in
     cond (refused8 q) Unplaceable (At (placeOf n (floorOf q -ℤ pos 1)))
+
+-- the same told apart: the number, and the place where there is one
+abbrev pub locNumber : Format → Float → Float → Float → ℕ
+locNumber f start step x = cond (refused8 (quotient f start step x)) 8 0
+
+abbrev pub locPlace : Format → Float → Float → ℕ → Float → List Place
+locPlace f start step n x =
+    let q = quotient f start step x in
+    cond (refused8 q) [] (placeOf n (floorOf q -ℤ pos 1) ∷ [])

@@ -1,4 +1,4 @@
--- 01, "The weights", regular, each operation rounded, in the Rust's order. h is the basis h00, h10, h01, h11, or its derivative.
+-- Clauses 4.2, 4.3, 4.6 and 4.8, regular, each operation rounded, in the Rust's order. h is the basis h00, h10, h01, h11, or its derivative.
 use Prim.Native.Nat.{ℕ, suc}
 use mathlib.Core.Bool.{Bool, true, false}
 use mathlib.Core.List.{List, [], _∷_}
@@ -7,6 +7,7 @@ use lib.ListN.{getD}
 use lib.Ieee.{Float, nan, Format, add, sub, mul, div, neg, ofInt}
 use Rattle.ieee.specs.Numbers.{zero, one}
 use Rattle.interp_math.specs.Basis.{two, hermiteBasis, hermiteBasisDerivative}
+use Rattle.multicubic.specs.declared.Place.{Place}
 use Rattle.multicubic.specs.declared.Saturation.{Saturation}
 use Rattle.multicubic.specs.declared.Saturation.the-variants.{None, InsideLow, OutsideLow, InsideHigh, OutsideHigh}
 use Rattle.interp_math.specs.Basis.{scaled}
@@ -77,3 +78,10 @@ derivativesOf f InsideLow straight t inv = scaled f (neg inv) (atLow (endSlopeOf
 derivativesOf f OutsideLow straight t inv = scaled f (neg inv) (atLow (endSlopeOf f (neg t) straight))
 derivativesOf f InsideHigh straight t inv = scaled f inv (atHigh (endSlopeOf f (sub f t one) false))
 derivativesOf f OutsideHigh straight t inv = scaled f inv (atHigh (endSlopeOf f (sub f t one) straight))
+
+-- the weights and derivative weights of a query at a place
+abbrev pub weightsAt : Format → Float → Float → Bool → Float → Place → List Float
+weightsAt f start step straight x p = weightsOf f (p .class) straight (tOf f start step (p .origin) x)
+
+abbrev pub derivativesAt : Format → Float → Float → Bool → Float → Place → List Float
+derivativesAt f start step straight x p = derivativesOf f (p .class) straight (tOf f start step (p .origin) x) (div f one step)

@@ -2,9 +2,9 @@
 ghost use mathlib.Core.Path.{_≡_};
 ghost use Prim.Native.Nat.{suc, _≤_, _<_};
 ghost use lib.Ieee.{binary64};
-ghost use Rattle.regular_axis.specs.Place.{locOf};
-ghost use Rattle.regular_axis.specs.Nodes.{weightsAt, derivativesAt};
-ghost use Rattle.regular_axis.specs.Weights.{node, tOf, interior, cubicEnd, atLow, atHigh, endOf, endSlopeOf, weightsOf, derivativesOf};
+ghost use Rattle.multicubic.specs.Answers.{numberOf, placeOutcome, placeIn};
+ghost use Rattle.regular_axis.specs.Place.{locOf, locNumber, locPlace};
+ghost use Rattle.regular_axis.specs.Weights.{node, tOf, interior, cubicEnd, atLow, atHigh, endOf, endSlopeOf, weightsOf, derivativesOf, weightsAt, derivativesAt};
 use interp_math::hermite_basis;
 use interp_math::hermite_basis_derivative;
 use interp_math::scale_weights;
@@ -18,6 +18,8 @@ use multicubic::place_from;
 pub fn get_loc(axis: Axis, v: f64) -> Loc
     requires { ⌜ 4 ≤ axis .count ⌝ }
     ensures { λ r. ⌜ r ≡ locOf binary64 (axis .start) (axis .step) (axis .count) v ⌝ }
+    ensures { λ r. ⌜ numberOf (placeOutcome 0 0 r) ≡ locNumber binary64 (axis .start) (axis .step) v ⌝ }
+    ensures { λ r. ⌜ placeIn r ≡ locPlace binary64 (axis .start) (axis .step) (axis .count) v ⌝ }
 {
     let n = axis.count;
     let q = (v - axis.start) / axis.step;

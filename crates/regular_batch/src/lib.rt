@@ -3,6 +3,7 @@ ghost use mathlib.Core.Path.{_≡_};
 ghost use Prim.Native.Nat.{_*_};
 ghost use lib.ListN.{length};
 ghost use lib.Ieee.{binary64};
+ghost use Rattle.multicubic.specs.Answers.{Says};
 ghost use Rattle.grid.specs.Query.{countsOf as gridCounts};
 ghost use Rattle.grid.specs.Batch.{foundAt, outcomeFrom, runFrom, interpOutcome, interpBuffer, gradOutcome, gradBuffer};
 ghost use Rattle.grid.specs.Internal.{Asked, putQuantity, answeredBefore, componentIn, FilledColumns};
@@ -74,7 +75,8 @@ fn fill(
     Outcome::Accepted
 }
 
-// The value of every query: entry i of `out` is query i's.
+// The value of every query: entry i of `out` is query i's. An entry that keeps its contents is not stored to, so a NaN there keeps its
+// payload too, of which the contract, with one NaN, says nothing. Operations round to nearest, with subnormals, and none is fused.
 pub fn interp(
     axis_count: usize,
     axes: [Axis; 4],
@@ -89,6 +91,9 @@ pub fn interp(
     ensures { λ r. ⌜
         now (out .exit) ≡
         interpBuffer binary64 (gridOf binary64 «axis_count» axes (now (vals .entry)) mode) (now (queries .entry)) (now (out .entry))
+        ⌝ }
+    ensures { λ r. ⌜
+        Says r (interpOutcome binary64 (gridOf binary64 «axis_count» axes (now (vals .entry)) mode) (now (queries .entry)) (now (out .entry)))
         ⌝ }
 {
     let checked = check_values(
@@ -157,7 +162,7 @@ fn fill_columns(
     outcome
 }
 
-// The gradient of every query: its component d is at the query's place in column d of `out`.
+// The gradient of every query: its component d is at the query's place in column d of `out`. Untouched entries and rounding are as in `interp`.
 pub fn interp_grad(
     axis_count: usize,
     axes: [Axis; 4],
@@ -172,6 +177,9 @@ pub fn interp_grad(
     ensures { λ r. ⌜
         now (out .exit) ≡
         gradBuffer binary64 (gridOf binary64 «axis_count» axes (now (vals .entry)) mode) (now (queries .entry)) (now (out .entry))
+        ⌝ }
+    ensures { λ r. ⌜
+        Says r (gradOutcome binary64 (gridOf binary64 «axis_count» axes (now (vals .entry)) mode) (now (queries .entry)) (now (out .entry)))
         ⌝ }
 {
     let checked = check_gradients(

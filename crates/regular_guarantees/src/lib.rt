@@ -1,10 +1,12 @@
-// Demand 3 said of the calls on a regular grid: two tables on the same axes, each with its own values and setting, asked alone and in a batch.
+// Section 8 said of the calls on a regular grid: two tables on the same axes, each with its own values and setting, asked alone and in a batch.
+ghost use mathlib.Core.Path.{_≡_};
 ghost use lib.ListN.{take};
 ghost use lib.Ieee.{binary64};
 ghost use Rattle.multicubic.specs.Same.{asAnswer};
 ghost use Rattle.grid.specs.Query.{at};
+ghost use Rattle.grid.specs.Batch.{interpOutcome};
 ghost use Rattle.regular_query.specs.Grid.{gridOf, AllPremises};
-ghost use Rattle.guarantees.specs.Statements.{OwedAlone, OwedInBatch};
+ghost use Rattle.guarantees.specs.Statements.{AnswersOf, BuffersOf, OwedAlone, OwedInBatch};
 use guarantees::TwoTables;
 use multicubic::Axis;
 use multicubic::EdgeMode;
@@ -25,6 +27,10 @@ pub fn alone(
         (gridOf binary64 «axis_count» axes (now («other_vals» .entry)) «other_mode»)
         (at x) (asAnswer (r .value)) (asAnswer (r .«other_value»))
         (r .gradient .outcome) (r .«other_gradient» .outcome) (r .gradient .gradient) (r .«other_gradient» .gradient) ⌝ }
+    ensures { λ r. ⌜ AnswersOf binary64 (gridOf binary64 «axis_count» axes (now (vals .entry)) mode) (at x)
+        (asAnswer (r .value)) (r .gradient .outcome) (r .gradient .gradient) ⌝ }
+    ensures { λ r. ⌜ AnswersOf binary64 (gridOf binary64 «axis_count» axes (now («other_vals» .entry)) «other_mode») (at x)
+        (asAnswer (r .«other_value»)) (r .«other_gradient» .outcome) (r .«other_gradient» .gradient) ⌝ }
 {
     let value = regular::interp_one(axis_count, axes, vals, mode, x);
     let gradient = regular::interp_one_grad(axis_count, axes, vals, mode, x);
@@ -57,6 +63,12 @@ pub fn in_batch(
         (gridOf binary64 «axis_count» axes (now («other_vals» .entry)) «other_mode»)
         (now (queries .entry)) r (now (out .entry)) (now (out .exit)) (now («other_out» .entry)) (now («other_out» .exit))
         (now (grad .entry)) (now (grad .exit)) (now («other_grad» .entry)) (now («other_grad» .exit)) ⌝ }
+    ensures { λ r. ⌜ r ≡ interpOutcome binary64 (gridOf binary64 «axis_count» axes (now (vals .entry)) mode)
+        (now (queries .entry)) (now (out .entry)) ⌝ }
+    ensures { λ r. ⌜ BuffersOf binary64 (gridOf binary64 «axis_count» axes (now (vals .entry)) mode)
+        (now (queries .entry)) (now (out .entry)) (now (out .exit)) (now (grad .entry)) (now (grad .exit)) ⌝ }
+    ensures { λ r. ⌜ BuffersOf binary64 (gridOf binary64 «axis_count» axes (now («other_vals» .entry)) «other_mode»)
+        (now (queries .entry)) (now («other_out» .entry)) (now («other_out» .exit)) (now («other_grad» .entry)) (now («other_grad» .exit)) ⌝ }
 {
     let outcome = regular_batch::interp(axis_count, axes, vals, mode, queries, out);
     regular_batch::interp_grad(axis_count, axes, vals, mode, queries, grad);

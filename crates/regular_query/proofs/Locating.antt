@@ -19,7 +19,8 @@ use Rattle.multicubic.proofs.Passed.{Passed}
 use Rattle.multicubic.proofs.Sizes.{count-within}
 use Rattle.regular_axis.specs.Place.{quotient, floorOf, refused8}
 use Rattle.reduction.specs.Value.{stridesOf}
-use Rattle.grid.specs.Query.{noAxis as noGridAxis, countsOf as gridCounts}
+use Rattle.grid.specs.Query.{countsOf as gridCounts}
+use Rattle.grid.specs.Internal.{noAxis as noGridAxis}
 use Rattle.grid.specs.Nodes.{All}
 use Rattle.grid.proofs.Premises.{Long}
 use Rattle.grid.proofs.Sizes.{all-long, each-long}

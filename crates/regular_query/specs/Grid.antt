@@ -1,4 +1,4 @@
--- 01, "The grid, taken or turned away", regular: an axis is its start, its step and its count.
+-- Section 2, regular: an axis is its start, its step and its count.
 use Prim.Native.Nat.{ℕ}
 use mathlib.Core.Bool.{Bool, not}
 use mathlib.Core.List.{List, map}
@@ -12,8 +12,8 @@ use Rattle.multicubic.specs.declared.Outcome.{Outcome}
 use Rattle.multicubic.specs.Grid.{lowest, _then_, sizeChecks}
 use Rattle.multicubic.specs.Place.{straightOf}
 use Rattle.regular_axis.specs.Place.{locOf}
-use Rattle.regular_axis.specs.Weights.{node}
-use Rattle.regular_axis.specs.Nodes.{Premises, weightsAt, derivativesAt}
+use Rattle.regular_axis.specs.Weights.{node, weightsAt, derivativesAt}
+use Rattle.regular_axis.specs.Nodes.{Premises}
 use Rattle.grid.specs.Query.{GridAxis, Grid}
 use Rattle.grid.specs.Nodes.{All}
 

@@ -1,12 +1,14 @@
 -- Entries that are there, and checks in their order.
 use mathlib.Core.Path.{_≡_, refl, ap}
 use mathlib.Core.List.{List, [], _∷_}
-use Prim.Native.Nat.{ℕ, zero, suc, _<_}
+use Prim.Native.Nat.{ℕ, zero, suc, _<_, _≤_}
 use native.Mathlib.Omega.{arith}
+use borrow.Author.Tests.{lt-ltb, le-ltb}
 use lib.ListN.{length, getD}
 use Rattle.multicubic.specs.declared.Outcome.{Outcome}
 use Rattle.multicubic.specs.declared.Outcome.the-variants.{Accepted, Refused}
 use Rattle.multicubic.specs.Grid.{_then_}
+use Rattle.slices.specs.Slices.{lower}
 
 -- an entry that is there does not depend on what would stand past the end
 pub present : {A : Type 0} (xs : List A) (i : ℕ) (a b : A) → i < length xs → getD xs i a ≡ getD xs i b
@@ -20,3 +22,11 @@ passes later e = ap (λ o. o then later) e
 
 pub stops : {earlier : Outcome} {number query axis : ℕ} (later : Outcome) → earlier ≡ Refused number query axis → (earlier then later) ≡ Refused number query axis
 stops later e = ap (λ o. o then later) e
+
+-- where both refuse, the lower number is told, at equal numbers the slices'
+module _ {slices checked : Outcome} {k kq ka l lq la : ℕ} (s : slices ≡ Refused l lq la) (g : checked ≡ Refused k kq ka) where
+  pub grid-first : k < l → Refused k kq ka ≡ lower slices checked
+  grid-first h = rw (s, g, lt-ltb k l h) refl
+
+  pub slices-first : l ≤ k → Refused l lq la ≡ lower slices checked
+  slices-first h = rw (s, g, le-ltb k l h) refl

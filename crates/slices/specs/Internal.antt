@@ -1,4 +1,4 @@
--- What the calls on gathered grids promise to the calls for C: no definition of 01's, and none of it need be believed, since the contracts of
+-- What the calls on gathered grids promise to the calls for C: no definition of the specification's, and none of it need be believed, since the contracts of
 -- the calls for C do not mention it.
 use mathlib.Core.Path.{_≡_}
 use mathlib.Core.List.{List}

@@ -236,7 +236,7 @@ fn how_many_axes(r: &mut Rng) -> usize {
 }
 
 fn make(r: &mut Rng, o: &mut Corpus) {
-    // The marked cases of the scope paper, and the cubes 0, 1, 8, 27.
+    // The marked cases (clause 9.1), and the cubes 0, 1, 8, 27.
     let five = [Axis::Regular { start: 0.0, step: 1.0, n: 5 }];
     let uneven = [Axis::Rectilinear(vec![0.0, 1.0, 2.0, 4.0, 7.0])];
     let cubes = [Axis::Regular { start: 0.0, step: 1.0, n: 4 }];
@@ -460,6 +460,15 @@ fn make(r: &mut Rng, o: &mut Corpus) {
         let mut queries: Vec<Vec<f64>> = (0..30).map(|_| vec![any_class(r, &axes[0])]).collect();
         queries.extend((0..30).map(|_| vec![near_node(r, &axes[0])]));
         o.group("long", &axes, rectilinear, v, queries);
+    }
+    // All NaN, the values and the queries, of either sign: refused on regular axes, answered on rectilinear ones.
+    for straight in [false, true] {
+        for many in 1..=2 {
+            let v = values(r, "nan", 4usize.pow(many as u32));
+            let queries = vec![vec![f64::NAN; many], vec![-f64::NAN; many]];
+            o.group("all NaN", &vec![cubes[0].clone(); many], straight, v.clone(), queries.clone());
+            o.group("all NaN", &vec![Axis::Rectilinear(good.to_vec()); many], straight, v, queries);
+        }
     }
 }
 

@@ -8,7 +8,8 @@ use lib.Ieee.{nan, binary64}
 use denote.Ref.{now}
 use Rattle.multicubic.specs.declared.Loc.{Loc}
 use Rattle.multicubic.specs.Grid.{sum}
-use Rattle.grid.specs.Query.{at, GridAxis, noAxis as noGridAxis}
+use Rattle.grid.specs.Query.{at, GridAxis}
+use Rattle.grid.specs.Internal.{noAxis as noGridAxis}
 use Rattle.grid.proofs.Locating.{Placing, placing-none, placing-turn, placing-all, so-far-unplaceable}
 use Rattle.rectilinear_query.specs.Grid.{gridAxis, axesIn}
 use Rattle.rectilinear_query.specs.Internal.{Taken}
@@ -67,14 +68,14 @@ returns : tie.Need-returns Inv-loop μ-loop
 returns c straight =
     let l = c .before .before .before .before .before .before .before in
     let h = c .before .before .before .before .before .before .loop-test .taken in
-    let e = so-far-unplaceable _ _ (l .loop .i) (l .loop .inv .7 straight .so-far) (inside l h straight) (loc-is l h straight _ (sym (c .before .before .enum-told .given .1) ∙ c .before .before .before .before .get-loc .ensures)) in
+    let e = so-far-unplaceable _ _ (l .loop .i) (l .loop .inv .7 straight .so-far) (inside l h straight) (loc-is l h straight _ (sym (c .before .before .enum-told .given .1) ∙ c .before .before .before .before .get-loc .ensures .0)) in
     (c .before .refused-query .ensures ∙ rw e refl, c .nowhere2 .ensures ∙ rw e refl)
 
 loop-again : tie.Need-loop-again Inv-loop μ-loop
 loop-again c =
     let l = c .before .before .before .before .before .before in
     let h = c .before .before .before .before .before .loop-test .taken in
-    let loc = sym (c .before .loc .given .1) ∙ c .before .before .before .get-loc .ensures in
+    let loc = sym (c .before .loc .given .1) ∙ c .before .before .before .get-loc .ensures .0 in
     (omega arith, l .loop .inv .1, l .loop .inv .2, l .loop .inv .3, rw length-set (l .loop .inv .4), l .loop .inv .5, omega (arith, l .loop .inv .6, sum-next (l .before .before .before .args .t2) (l .loop .i)), λ straight. placing-turn _ _ _ (l .loop .i) (l .loop .inv .7 straight) (inside l h straight) (omega arith) _ (loc-is l h straight _ loc))
 
 returns-2 : tie.Need-returns-2 Inv-loop μ-loop

@@ -1,5 +1,5 @@
 -- Values: a refused grid leaves the buffer as it was, another fills it.
-use mathlib.Core.Path.{_∙_, ap}
+use mathlib.Core.Path.{_≡_, _∙_, ap}
 use lib.ListN.{length}
 use denote.Ref.{now}
 use lib.Ieee.{binary64}
@@ -23,10 +23,10 @@ unfolding rectilinearFrom
 let-through c =
     let a = c .before .before .before .before .before .before .before .before .before .before .before .before .before .before .args in
     let four = c .before .before .before .before .before .before .before .counts-from .ensures in
-    let mode = c .before .before .before .before .mode-of .ensures in
+    let mode : _ ≡ modeOf (a .straight) = c .before .before .before .before .mode-of .ensures in
     let grid = (λ i. gridOf binary64 (a .axis-count) (four i) (now (a .axes)) (now (a .vals)) (mode i)) ∙ whole (gridOf binary64 (a .axis-count) (countsFrom (now (a .counts))) (now (a .axes)) (now (a .vals)) (modeOf (a .straight))) (c .before .before .before .before .before .enum-told2 .given .1) (c .before .before .before .before .before .before .before .before .check-slices .ensures) in
     let called = c .before .before .interp .ensures in
-    (called .0 ∙ (λ i. interpOutcome binary64 (grid i) (now (a .queries)) (now (a .out))), called .1 ∙ (λ i. interpBuffer binary64 (grid i) (now (a .queries)) (now (a .out))))
+    (called .0 ∙ (λ i. interpOutcome binary64 (grid i) (now (a .queries)) (now (a .out))), called .1 .0 ∙ (λ i. interpBuffer binary64 (grid i) (now (a .queries)) (now (a .out))))
 
 pub interp-spec : {M : Type 1} → statement M
 interp-spec = tie.close (tie.spec (λ c κs. tt) (λ c κs. tt) (λ c. search needs) (λ c κs. tt) (λ c. search needs) (λ c κs. tt) (λ c κs. tt) turned-away (λ c. search needs) let-through)

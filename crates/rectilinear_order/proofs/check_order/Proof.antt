@@ -5,11 +5,11 @@ use Rattle.rectilinear_order.proofs.check_order.Statement.{statement}
 use Rattle.rectilinear_order.proofs.check_order.Tie as tie
 
 returns : tie.Need-returns
-returns c = rw (← c .before .before .before .first-faulty .ensures, c .before .rising .given .1) refl
+returns c = rw (← c .before .before .first-faulty .ensures, c .enum-told .given .1) refl
 
 returns-2 : tie.Need-returns-2
 returns-2 c =
-    let e = sym (c .before .before .before .first-faulty .ensures) ∙ c .before .enum-told .given .1 in
+    let e = sym (c .before .before .before .first-faulty .ensures) ∙ c .before .enum-told2 .given .1 in
     rw e (c .first-faulty2 .ensures)
 
 pub check-order-spec : {M : Type 1} → statement M

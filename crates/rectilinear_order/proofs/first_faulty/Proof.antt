@@ -2,7 +2,7 @@
 use mathlib.Core.Path.{sym, _∙_}
 use Prim.Native.Nat.{_-_}
 use native.Mathlib.Omega.{arith}
-use Rattle.rectilinear_order.specs.Faults.{faultOf}
+use Rattle.rectilinear_order.specs.Internal.{faultOf}
 use Rattle.rectilinear_order.proofs.Passes.{Left, start, finish, fits, long, refused, next}
 use borrow.Author.Needs.{needs}
 use Rattle.rectilinear_order.proofs.first_faulty.Statement.{statement}

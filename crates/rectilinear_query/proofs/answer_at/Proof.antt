@@ -9,8 +9,8 @@ use Rattle.ieee.specs.Numbers.{zero as nought}
 use Rattle.multicubic.specs.declared.Outcome.{Outcome}
 use Rattle.multicubic.specs.Answers.{answered}
 use Rattle.multicubic.specs.Grid.{sum}
-use Rattle.grid.specs.Query.{GridAxis, noAxis as noGridAxis}
-use Rattle.grid.specs.Internal.{rowAt}
+use Rattle.grid.specs.Query.{GridAxis}
+use Rattle.grid.specs.Internal.{rowAt, noAxis as noGridAxis}
 use Rattle.grid.proofs.Fit.{Fit}
 use Rattle.grid.proofs.Answering.{Turn, turn-none, turn-room, turn-refused, turn-small, turn-next, turn-reach, turn-value}
 use Rattle.rectilinear_query.specs.Grid.{gridAxis, axesIn}
@@ -81,7 +81,7 @@ unfolding ofBits
 returns c =
     let l = c .before .before .before .before .before .before .before .before in
     let h = c .before .before .before .before .before .before .before .loop-test .taken in
-    let loc = sym (c .before .before .enum-told .given .1) ∙ c .before .before .before .before .get-loc .ensures in
+    let loc = sym (c .before .before .enum-told .given .1) ∙ c .before .before .before .before .get-loc .ensures .0 in
     c .answered .ensures ∙ ap (λ (o : Outcome). answered o nought) (c .before .refused-query .ensures) ∙ turn-refused (fits l) (l .loop .inv .5) h (own l h) (same l h) binary64 (now (l .before .before .before .before .args .vals)) loc
 
 mul-row-at : tie.Need-mul-row-at Inv-loop μ-loop
@@ -93,14 +93,14 @@ part-row-at-end c = ends (c .before .before .before .before .before .before .bef
 row-at-requires : tie.Need-row-at-requires Inv-loop μ-loop
 row-at-requires c κs =
     let l = c .before .before .before .before .before .before .before .before .before in
-    room-on binary64 (l .before .before .before .before .args .linearize-extrapolation) (l .loop .inv .2) (taken-of (l .loop .inv .4)) (l .loop .axis) (c .before .before .before .before .before .before .before .before .loop-test .taken) (l .loop .start) (l .loop .inv .3) _ _ (sym (c .before .before .before .loc .given .1) ∙ c .before .before .before .before .before .get-loc .ensures)
+    room-on binary64 (l .before .before .before .before .args .linearize-extrapolation) (l .loop .inv .2) (taken-of (l .loop .inv .4)) (l .loop .axis) (c .before .before .before .before .before .before .before .before .loop-test .taken) (l .loop .start) (l .loop .inv .3) _ _ (sym (c .before .before .before .loc .given .1) ∙ c .before .before .before .before .before .get-loc .ensures .0)
 
 -- the index of the block's first value stays small
 small : (c : tie.After-row-at Inv-loop μ-loop) → c .before .before .before .before .before .before .before .before .before .before .loop .base + c .before .before .before .before .loc .given .0 .0 .origin * getD (c .before .before .before .before .before .before .before .before .before .before .before .before .before .before .args .t6) (c .before .before .before .before .before .before .before .before .before .before .loop .axis) 0 < 1048576
 small c =
     let l = c .before .before .before .before .before .before .before .before .before .before in
     let h = c .before .before .before .before .before .before .before .before .before .loop-test .taken in
-    turn-small (fits l) (l .loop .inv .5) h (own l h) (same l h) _ (sym (c .before .before .before .before .loc .given .1) ∙ c .before .before .before .before .before .before .get-loc .ensures)
+    turn-small (fits l) (l .loop .inv .5) h (own l h) (same l h) _ (sym (c .before .before .before .before .loc .given .1) ∙ c .before .before .before .before .before .before .get-loc .ensures .0)
 
 mul-base : tie.Need-mul-base Inv-loop μ-loop
 mul-base c = omega (arith, small c)
@@ -115,7 +115,7 @@ loop-again : tie.Need-loop-again Inv-loop μ-loop
 loop-again c =
     let l = c .before .before .before .before .before .before .before .before .before .before in
     let h = c .before .before .before .before .before .before .before .before .before .loop-test .taken in
-    let loc = sym (c .before .before .before .before .loc .given .1) ∙ c .before .before .before .before .before .before .get-loc .ensures in
+    let loc = sym (c .before .before .before .before .loc .given .1) ∙ c .before .before .before .before .before .before .get-loc .ensures .0 in
     let row = ap (rowAt (own l h) (getD (now (l .before .before .before .before .args .queries)) (l .loop .at) nan) (c .before .before .before .before .loc .given .0 .0)) (c .before .before .is-component .ensures) in
     let next = turn-next (fits l) (l .loop .inv .5) h (own l h) (same l h) _ loc _ (c .row-at .ensures ∙ row) in
     (omega arith, l .loop .inv .1, l .loop .inv .2, omega (arith, l .loop .inv .3, sum-next (l .before .before .before .before .args .t2) (l .loop .axis)), l .loop .inv .4, next)

@@ -3,6 +3,7 @@ use mathlib.Core.Path.{sym, _∙_}
 use lib.ListN.{length}
 use lib.Ieee.{binary64, ofBits}
 use denote.Ref.{now}
+use Rattle.multicubic.proofs.Said.{both-say}
 use Rattle.grid.proofs.Singles.{gradient-refused, gradient-single}
 use Rattle.regular_query.specs.Grid.{gridOf}
 use Rattle.regular_query.proofs.Locating.{spaceable, ready-by}
@@ -13,26 +14,26 @@ use Rattle.regular.proofs.interp_one_grad.Tie as tie
 strides-requires : tie.Need-strides-requires
 strides-requires c κs =
     let a = c .before .before .before .before .before .before .args in
-    spaceable (a .axis-count) (a .axes) (length (now (a .vals))) (sym (c .before .before .before .before .new .ensures) ∙ c .before .before .enum-told2 .given .1) _ (c .counts-of .ensures)
+    spaceable (a .axis-count) (a .axes) (length (now (a .vals))) (sym (c .before .before .before .before .new .ensures .0) ∙ c .before .before .enum-told2 .given .1) _ (c .counts-of .ensures)
 
 gradient-at-requires : tie.Need-gradient-at-requires
 gradient-at-requires c κs =
     let a = c .before .before .before .before .before .before .before .args in
-    ready-by (a .axis-count) (a .axes) (length (now (a .vals))) (sym (c .before .before .before .before .before .new .ensures) ∙ c .before .before .before .enum-told2 .given .1) _ (c .before .counts-of .ensures) _ (c .strides .ensures)
+    ready-by (a .axis-count) (a .axes) (length (now (a .vals))) (sym (c .before .before .before .before .before .new .ensures .0) ∙ c .before .before .before .enum-told2 .given .1) _ (c .before .counts-of .ensures) _ (c .strides .ensures)
 
 returns : tie.Need-returns
 unfolding ofBits
 returns c =
     let a = c .before .before .before .before .args in
-    let w = gradient-refused binary64 (gridOf binary64 (a .axis-count) (a .axes) (now (a .vals)) (a .mode)) (a .x) _ _ _ (sym (c .before .before .new .ensures) ∙ c .enum-told .given .1) in
-    (c .before .before .new .ensures ∙ w .0, w .1)
+    let w = gradient-refused binary64 (gridOf binary64 (a .axis-count) (a .axes) (now (a .vals)) (a .mode)) (a .x) _ _ _ (sym (c .before .before .new .ensures .0) ∙ c .enum-told .given .1) in
+    both-say (c .before .before .new .ensures .0 ∙ w .0, w .1)
 
 returns-2 : tie.Need-returns-2
 returns-2 c =
     let a = c .before .before .before .before .before .before .before .before .args in
     let w = c .gradient-at .ensures in
     let e = c .before .before .before .linearize-extrapolation .ensures in
-    gradient-single binary64 (gridOf binary64 (a .axis-count) (a .axes) (now (a .vals)) (a .mode)) (a .x) _ _ (sym (c .before .before .before .before .before .before .new .ensures) ∙ c .before .before .before .before .enum-told2 .given .1) (w .0 ∙ rw e) (w .1 ∙ rw e)
+    both-say (gradient-single binary64 (gridOf binary64 (a .axis-count) (a .axes) (now (a .vals)) (a .mode)) (a .x) _ _ (sym (c .before .before .before .before .before .before .new .ensures .0) ∙ c .before .before .before .before .enum-told2 .given .1) (w .0 ∙ rw e) (w .1 ∙ rw e))
 
 pub interp-one-grad-spec : {M : Type 1} → statement M
 interp-one-grad-spec =

@@ -3,7 +3,7 @@ use lib.Ieee.{binary64}
 use borrow.Author.Needs.{needs}
 use denote.Ref.{now}
 use Rattle.guarantees.proofs.Typing.{array-fits}
-use Rattle.guarantees.proofs.Owed.{owed-alone}
+use Rattle.guarantees.proofs.Owed.{promised-alone}
 use Rattle.regular_guarantees.proofs.Supplied.{supplied}
 use Rattle.regular_guarantees.proofs.alone.Statement.{statement}
 use Rattle.regular_guarantees.proofs.alone.Tie as tie
@@ -16,9 +16,11 @@ returns c =
     let s = asked .before .before .before in
     let a = s .args in
     let x = s .good .1 .1 .0 in
-    owed-alone (supplied binary64 (a .axis-count) (a .axes) (now (a .vals)) (a .mode) vals)
+    promised-alone (supplied binary64 (a .axis-count) (a .axes) (now (a .vals)) (a .mode) vals)
     (supplied binary64 (a .axis-count) (a .axes) (now (a .other-vals)) (a .other-mode) other)
-    (array-fits binary64 (a .x) (x .0) (x .1 .1)) (asked .interp-one .ensures) (c .before .interp-one2 .ensures) (c .before .before .interp-one-grad .ensures) (c .interp-one-grad2 .ensures)
+    (array-fits binary64 (a .x) (x .0) (x .1 .1))
+    (asked .interp-one .ensures .0, c .before .before .interp-one-grad .ensures .0, c .before .before .interp-one-grad .ensures .1 .0)
+    (c .before .interp-one2 .ensures .0, c .interp-one-grad2 .ensures .0, c .interp-one-grad2 .ensures .1 .0)
 
 pub alone-spec : {M : Type 1} → statement M
 alone-spec = tie.close (tie.spec (λ c κs. search needs) (λ c κs. search needs) (λ c κs. search needs) (λ c κs. search needs) returns)

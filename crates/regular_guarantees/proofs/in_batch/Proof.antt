@@ -2,7 +2,7 @@
 use lib.Ieee.{binary64}
 use borrow.Author.Needs.{needs}
 use denote.Ref.{now}
-use Rattle.guarantees.proofs.Owed.{owed-in-batch}
+use Rattle.guarantees.proofs.Owed.{promised-in-batch}
 use Rattle.regular_guarantees.proofs.Supplied.{supplied, counted}
 use Rattle.regular_guarantees.proofs.in_batch.Statement.{statement}
 use Rattle.regular_guarantees.proofs.in_batch.Tie as tie
@@ -17,9 +17,10 @@ returns c =
     let queries = vals .before in
     let s = queries .before in
     let a = s .args in
-    owed-in-batch (supplied binary64 (a .axis-count) (a .axes) (now (a .vals)) (a .mode) (vals .shared-slice-known2 .given))
+    promised-in-batch (supplied binary64 (a .axis-count) (a .axes) (now (a .vals)) (a .mode) (vals .shared-slice-known2 .given))
     (counted binary64 (a .axis-count) (a .axes) (now (a .vals)) (a .mode) (s .good .1 .0 .1 .0 .1))
-    (queries .shared-slice-known .given) (first .interp .ensures) (third .interp2 .ensures .1) (second .interp-grad .ensures .1) (last .interp-grad2 .ensures .1)
+    (queries .shared-slice-known .given) (first .interp .ensures .0)
+    (first .interp .ensures .1 .0, second .interp-grad .ensures .1 .0) (third .interp2 .ensures .1 .0, last .interp-grad2 .ensures .1 .0)
 
 pub in-batch-spec : {M : Type 1} → statement M
 in-batch-spec = tie.close (tie.spec (λ c κs. search needs) (λ c κs. search needs) (λ c κs. search needs) (λ c κs. search needs) (λ c. search needs) (λ c. search needs) (λ c. search needs) (λ c. search needs) returns)

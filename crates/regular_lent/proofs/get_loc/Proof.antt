@@ -35,7 +35,7 @@ let-through c =
     let query = c .before .query-from .ensures in
     λ mode.
     let grid = (λ i. gridOf binary64 (a .axis-count) (axes i) (now (a .vals)) mode) ∙ whole (gridOf binary64 (a .axis-count) (axesFrom (now (a .counts)) (now (a .starts)) (now (a .steps))) (now (a .vals)) mode) (c .before .before .enum-told2 .given .1) slices in
-    (c .get-loc .ensures .0 mode ∙ (λ i. outcomeOf (grid i) (at (query i))), c .get-loc .ensures .1 mode ∙ (λ i. placeAnswer (grid i) (at (query i))))
+    (c .get-loc .ensures .0 mode ∙ (λ i. outcomeOf (grid i) (at (query i))), c .get-loc .ensures .1 .0 mode ∙ (λ i. placeAnswer (grid i) (at (query i))))
 
 pub get-loc-spec : {M : Type 1} → statement M
 get-loc-spec = tie.close (tie.spec (λ c κs. tt) (λ c κs. tt) (λ c κs. tt) (λ c κs. tt) (λ c. search needs) (λ c κs. tt) (λ c κs. tt) (λ c. search needs) (λ c κs. tt) (λ c κs. tt) turned-away let-through)

@@ -1,5 +1,5 @@
 -- Gradients: a refused grid leaves the buffer as it was, another fills it.
-use mathlib.Core.Path.{_∙_, ap}
+use mathlib.Core.Path.{_≡_, _∙_, ap}
 use lib.ListN.{length}
 use denote.Ref.{now}
 use lib.Ieee.{binary64}
@@ -26,10 +26,10 @@ let-through c =
     let a = c .before .before .before .before .before .before .before .before .before .before .before .before .before .before .before .before .args in
     let slices = c .before .before .before .before .before .before .before .before .check-slices .ensures ∙ ap (λ s. slicesOf (a .axis-count) s (a .refusal)) (c .before .before .before .before .before .before .before .before .before .shortest-of .ensures) in
     let axes = c .before .before .before .before .before .before .before .axes-from .ensures in
-    let mode = c .before .before .before .before .mode-of .ensures in
+    let mode : _ ≡ modeOf (a .straight) = c .before .before .before .before .mode-of .ensures in
     let grid = (λ i. gridOf binary64 (a .axis-count) (axes i) (now (a .vals)) (mode i)) ∙ whole (gridOf binary64 (a .axis-count) (axesFrom (now (a .counts)) (now (a .starts)) (now (a .steps))) (now (a .vals)) (modeOf (a .straight))) (c .before .before .before .before .before .enum-told2 .given .1) slices in
     let called = c .before .before .interp-grad .ensures in
-    (called .0 ∙ (λ i. gradOutcome binary64 (grid i) (now (a .queries)) (now (a .out))), called .1 ∙ (λ i. gradBuffer binary64 (grid i) (now (a .queries)) (now (a .out))))
+    (called .0 ∙ (λ i. gradOutcome binary64 (grid i) (now (a .queries)) (now (a .out))), called .1 .0 ∙ (λ i. gradBuffer binary64 (grid i) (now (a .queries)) (now (a .out))))
 
 pub interp-grad-spec : {M : Type 1} → statement M
 interp-grad-spec = tie.close (tie.spec (λ c κs. tt) (λ c κs. tt) (λ c κs. tt) (λ c. search needs) (λ c κs. tt) (λ c. search needs) (λ c κs. tt) (λ c κs. tt) turned-away (λ c. search needs) let-through)

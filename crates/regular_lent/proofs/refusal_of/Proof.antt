@@ -5,7 +5,7 @@ use Rattle.regular_lent.proofs.refusal_of.Statement.{statement}
 use Rattle.regular_lent.proofs.refusal_of.Tie as tie
 
 lowered : tie.Need-returns
-lowered c = c .lower .ensures ∙ ap (lower (c .before .before .before .args .slices)) (c .before .new .ensures)
+lowered c = c .lower .ensures ∙ ap (lower (c .before .before .before .args .slices)) (c .before .new .ensures .0)
 
 pub refusal-of-spec : {M : Type 1} → statement M
 refusal-of-spec = tie.close (tie.spec (λ c κs. tt) (λ c κs. tt) lowered)

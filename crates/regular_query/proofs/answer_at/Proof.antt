@@ -8,8 +8,8 @@ use denote.Ref.{now}
 use Rattle.ieee.specs.Numbers.{zero as nought}
 use Rattle.multicubic.specs.declared.Outcome.{Outcome}
 use Rattle.multicubic.specs.Answers.{answered}
-use Rattle.grid.specs.Query.{GridAxis, noAxis as noGridAxis}
-use Rattle.grid.specs.Internal.{rowAt}
+use Rattle.grid.specs.Query.{GridAxis}
+use Rattle.grid.specs.Internal.{rowAt, noAxis as noGridAxis}
 use Rattle.grid.proofs.Fit.{Fit}
 use Rattle.grid.proofs.Answering.{Turn, turn-none, turn-room, turn-refused, turn-small, turn-next, turn-reach, turn-value}
 use Rattle.regular_query.specs.Grid.{gridAxis, axesIn}
@@ -66,20 +66,20 @@ returns : tie.Need-returns Inv-loop μ-loop
 unfolding ofBits
 returns c =
     let l = c .before .before .before .before .before .before .before .before in
-    let loc = sym (c .before .before .enum-told .given .1) ∙ c .before .before .before .before .get-loc .ensures in
+    let loc = sym (c .before .before .enum-told .given .1) ∙ c .before .before .before .before .get-loc .ensures .0 in
     c .answered .ensures ∙ ap (λ (o : Outcome). answered o nought) (c .before .refused-query .ensures) ∙ turn-refused (fits l) (l .loop .inv .4) (c .before .before .before .before .before .before .before .loop-test .taken) (own l) (same l (c .before .before .before .before .before .before .before .loop-test .taken)) binary64 (now (l .before .before .before .args .vals)) loc
 
 row-at-requires : tie.Need-row-at-requires Inv-loop μ-loop
 row-at-requires c κs =
     let l = c .before .before .before .before .before .before .before .before .before in
-    let loc = sym (c .before .before .before .loc .given .1) ∙ c .before .before .before .before .before .get-loc .ensures in
+    let loc = sym (c .before .before .before .loc .given .1) ∙ c .before .before .before .before .before .get-loc .ensures .0 in
     origin-below binary64 (l .before .before .before .args .linearize-extrapolation) (l .loop .inv .2) (taken-of (l .loop .inv .3)) (l .loop .axis) (c .before .before .before .before .before .before .before .before .loop-test .taken) _ _ loc
 
 -- the index of the block's first value stays small
 small : (c : tie.After-row-at Inv-loop μ-loop) → c .before .before .before .before .before .before .before .before .before .before .loop .base + c .before .before .before .before .loc .given .0 .0 .origin * getD (c .before .before .before .before .before .before .before .before .before .before .before .before .before .args .t5) (c .before .before .before .before .before .before .before .before .before .before .loop .axis) 0 < 1048576
 small c =
     let l = c .before .before .before .before .before .before .before .before .before .before in
-    turn-small (fits l) (l .loop .inv .4) (c .before .before .before .before .before .before .before .before .before .loop-test .taken) (own l) (same l (c .before .before .before .before .before .before .before .before .before .loop-test .taken)) _ (sym (c .before .before .before .before .loc .given .1) ∙ c .before .before .before .before .before .before .get-loc .ensures)
+    turn-small (fits l) (l .loop .inv .4) (c .before .before .before .before .before .before .before .before .before .loop-test .taken) (own l) (same l (c .before .before .before .before .before .before .before .before .before .loop-test .taken)) _ (sym (c .before .before .before .before .loc .given .1) ∙ c .before .before .before .before .before .before .get-loc .ensures .0)
 
 mul-base : tie.Need-mul-base Inv-loop μ-loop
 mul-base c = omega (arith, small c)
@@ -93,7 +93,7 @@ add-at c = omega (arith, turn-room (fits (c .before .before .before .before .bef
 loop-again : tie.Need-loop-again Inv-loop μ-loop
 loop-again c =
     let l = c .before .before .before .before .before .before .before .before .before .before in
-    let loc = sym (c .before .before .before .before .loc .given .1) ∙ c .before .before .before .before .before .before .get-loc .ensures in
+    let loc = sym (c .before .before .before .before .loc .given .1) ∙ c .before .before .before .before .before .before .get-loc .ensures .0 in
     let row = ap (rowAt (own l) (getD (now (l .before .before .before .args .queries)) (l .loop .at) nan) (c .before .before .before .before .loc .given .0 .0)) (c .before .before .is-component .ensures) in
     (omega arith, l .loop .inv .1, l .loop .inv .2, l .loop .inv .3, turn-next (fits l) (l .loop .inv .4) (c .before .before .before .before .before .before .before .before .before .loop-test .taken) (own l) (same l (c .before .before .before .before .before .before .before .before .before .loop-test .taken)) _ loc _ (c .row-at .ensures ∙ row))
 

@@ -1,4 +1,4 @@
--- The steps of the search, where c entries are below the query.
+-- The steps of the search, where c entries are below the query. Internal functions say it; no entry point's contract mentions it.
 use mathlib.Core.Path.{_≡_}
 use mathlib.Core.Logic.{_⊎_}
 use Prim.Native.Nat.{ℕ, _+_, _*_, _≤_, _<_}

@@ -1,4 +1,4 @@
--- Checks 5 and 6 on one axis, told apart by a Bool: whether it is 6.
+-- Checks 5 and 6 on one axis, told apart by a Bool: whether it is 6. Internal functions say it; no entry point's contract mentions it.
 use mathlib.Core.Bool.{Bool, true, false}
 use mathlib.Core.List.{List}
 use lib.Ieee.{Float}

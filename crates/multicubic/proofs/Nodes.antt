@@ -1,11 +1,12 @@
--- 01, "Nodes and blocks (demand 3)": the row of weights of one axis at a node.
+-- The row of weights of one axis at a node, as the laws of nodes tell it to each other.
 use Prim.Native.Nat.{ℕ, _-_, _≤_, _<_}
 use mathlib.Core.Path.{_≡_}
 use mathlib.Core.List.{List}
 use lib.IntN.{ℤ}
 use lib.ListN.{getD}
 use lib.Ieee.{Float, nan}
-use Rattle.ieee.specs.Numbers.{one, IsZero}
+use Rattle.ieee.specs.Numbers.{one}
+use Rattle.ieee.proofs.Zero.{IsZero}
 use Rattle.multicubic.specs.Place.{placeOf, Placed, AxisOutcome, placed}
 
 -- four weights: one at place j, a zero of either sign at the others

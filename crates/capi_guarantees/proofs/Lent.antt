@@ -1,0 +1,70 @@
+-- A grid that is accepted as it is lent is accepted, and its slices are long enough; so it has what its kind supplies.
+use mathlib.Core.Path.{_≡_, refl}
+use mathlib.Core.Bool.{Bool, true, false, cond}
+use Prim.Native.Nat.{ℕ, _≤_, min}
+use lib.Dec.{ltb}
+use lib.Ieee.{Format}
+use borrow.Author.Tests.{ltb-false}
+use Rattle.multicubic.specs.declared.Outcome.{Outcome}
+use Rattle.multicubic.specs.declared.Outcome.the-variants.{Accepted, Refused}
+use Rattle.multicubic.specs.Grid.{refuse}
+use Rattle.multicubic.proofs.Passed.{not-accepted, then-accepted, refuse-accepted}
+use Rattle.grid.specs.Query.{Grid}
+use Rattle.slices.specs.Slices.{slicesOf, querySlicesOf, lower}
+use Rattle.slices.specs.Lent.{Gathered, lent, lentTo, lentToQuery}
+use Rattle.guarantees.specs.Statements.{IsAccepted}
+use Rattle.guarantees.proofs.Nodes.{Supplied}
+use Rattle.guarantees.proofs.Blocks.{Counted}
+
+lower-accepted : (slices checked : Outcome) → lower slices checked ≡ Accepted → (slices ≡ Accepted) × (checked ≡ Accepted)
+lower-accepted Accepted checked e = (refl, e)
+lower-accepted (Refused number query axis) Accepted e = absurd (not-accepted number query axis e)
+lower-accepted (Refused number query axis) (Refused k q a) e = absurd (go (ltb k number) e)
+  where
+    go : (b : Bool) → cond b (Refused k q a) (Refused number query axis) ≡ Accepted → ⊥
+    go true e = not-accepted k q a e
+    go false e = not-accepted number query axis e
+
+module _ (slices : Outcome) (g : Grid) where
+  accepted : IsAccepted (lent slices g) → IsAccepted g
+  accepted e = lower-accepted slices (g .checked) e .1
+
+  pub lent-supplied : {f : Format} {premises : Type 0} → Supplied f premises g → Supplied f premises (lent slices g)
+  lent-supplied kind = record {
+    sized = λ e. let z = kind .sized (accepted e) in record { long = z .long; size = z .size };
+    laws = λ e. kind .laws (accepted e);
+    held = kind .held;
+  }
+
+  pub lent-counted : Counted g → Counted (lent slices g)
+  lent-counted counted e = counted (accepted e)
+
+-- as it is lent to a call without a single query: `refusal` holds a query and an axis
+module _ (s : Gathered) (refusal : ℕ) where
+  abbrev slices : Outcome
+  slices = slicesOf (s .grid .axis-count) (s .shortest) refusal
+
+  pub supplied-to : {f : Format} {premises : Type 0} → Supplied f premises (s .grid) → Supplied f premises (lentTo s refusal)
+  supplied-to = lent-supplied slices (s .grid)
+
+  pub counted-to : Counted (s .grid) → Counted (lentTo s refusal)
+  counted-to = lent-counted slices (s .grid)
+
+  pub refusal-holds : IsAccepted (lentTo s refusal) → 2 ≤ refusal
+  unfolding slicesOf
+  refusal-holds e = ltb-false refusal 2 (refuse-accepted _ 7 (then-accepted (refuse (ltb (s .shortest) (s .grid .axis-count)) 3) _ (lower-accepted slices (s .grid .checked) e .0) .1))
+
+-- to a single query: what is to be written has room
+module _ (s : Gathered) (query refusal room need : ℕ) where
+  abbrev query-slices : Outcome
+  query-slices = querySlicesOf (s .grid .axis-count) (s .shortest) query refusal room need
+
+  pub supplied-to-query : {f : Format} {premises : Type 0} → Supplied f premises (s .grid) → Supplied f premises (lentToQuery s query refusal room need)
+  supplied-to-query = lent-supplied query-slices (s .grid)
+
+  pub counted-to-query : Counted (s .grid) → Counted (lentToQuery s query refusal room need)
+  counted-to-query = lent-counted query-slices (s .grid)
+
+  pub has-room : IsAccepted (lentToQuery s query refusal room need) → need ≤ room
+  unfolding querySlicesOf
+  has-room e = ltb-false room need (refuse-accepted _ 7 (then-accepted (slicesOf (s .grid .axis-count) (min (s .shortest) query) refusal) _ (lower-accepted query-slices (s .grid .checked) e .0) .1))

@@ -1,0 +1,6 @@
+-- The statements hold of what the calls for C leave.
+pub mod Typing
+pub mod Lent
+pub mod Read
+pub mod Owed
+pub mod Gathered

@@ -1,0 +1,96 @@
+-- Two gathered grids that have what their kind supplies have what is owed: the laws of `guarantees` hold of the grids as they are lent, and
+-- a caller reads what was answered.
+use mathlib.Core.Path.{refl, sym, _∙_, subst}
+use mathlib.Core.List.{List}
+use Prim.Native.Nat.{ℕ, _<_}
+use lib.ListN.{length, take}
+use lib.Ieee.{Float, Format}
+use Rattle.grid.specs.Query.{Grid, at, outcomeOf, valueAnswer, gradientAnswer}
+use Rattle.grid.specs.Batch.{interpOutcome, interpBuffer, gradBuffer}
+use Rattle.grid.specs.Nodes.{Fits}
+use Rattle.guarantees.proofs.Nodes.{Supplied, node-rule, node-corollary, node-in-batch}
+use Rattle.guarantees.proofs.Blocks.{Counted, block-rule, block-gradient, block-in-batch, block-in-columns}
+use Rattle.slices.specs.Slices.{queryFrom}
+use Rattle.slices.specs.Lent.{Gathered, lentTo, lentToQuery}
+use Rattle.capi.specs.Calls.{interpOneLeaves, interpOneGradLeaves, interpLeaves, interpGradLeaves}
+use Rattle.capi_guarantees.specs.Statements.{OfValue, OfGradient, OfBatch, OfColumns, Owed}
+use Rattle.capi_guarantees.proofs.Typing.{typed, query-typed}
+use Rattle.capi_guarantees.proofs.Lent.{supplied-to, counted-to, refusal-holds, supplied-to-query, counted-to-query}
+use Rattle.capi_guarantees.proofs.Read.{value-read, gradient-read, number-read, query-read}
+
+module _ (f : Format) (premises : Type 0) (s s' : Gathered) where
+  module _ (x out out' : List Float) (refusal refusal' : List ℕ) where
+    abbrev query : ℕ → Float
+    query = at (queryFrom x)
+
+    abbrev one : Grid
+    one = lentToQuery s (length x) (length refusal) (length out) 1
+
+    abbrev one' : Grid
+    one' = lentToQuery s' (length x) (length refusal') (length out') 1
+
+    of-value : Supplied f premises (s .grid) → Supplied f premises (s' .grid) → Fits f x → OfValue premises one one' query (interpOneLeaves f s x refusal out) (interpOneLeaves f s' x refusal' out')
+    of-value kind kind' fit =
+        let supplied = supplied-to-query s (length x) (length refusal) (length out) 1 kind in
+        let supplied' = supplied-to-query s' (length x) (length refusal') (length out') 1 kind' in
+        let fits = query-typed f x fit in
+        let read = value-read f s x refusal out in
+        let read' = value-read f s' x refusal' out' in
+        record {
+          node = λ node h. let r = node-rule f premises one supplied query fits (valueAnswer f one query) refl node h in (r .0, read (r .0) (h .0) (r .1), r .2);
+          corollary = λ node h h'.
+              let r = node-corollary f premises one one' supplied supplied' query fits (valueAnswer f one query) (valueAnswer f one' query) refl refl node h h' in
+              (r .0, r .1, read (r .0) (h .0) (r .2), read' (r .1) (h' .0) (r .3), r .4);
+          block = λ ps h.
+              let r = block-rule f one one' query (valueAnswer f one query) (valueAnswer f one' query) refl refl ps h in
+              (r .0, read (r .0) (h .0) (r .1), read' (r .0) (h .1) (r .2));
+        }
+
+    abbrev each : Grid
+    each = lentToQuery s (length x) (length refusal) (length out) (s .grid .axis-count)
+
+    abbrev each' : Grid
+    each' = lentToQuery s' (length x) (length refusal') (length out') (s' .grid .axis-count)
+
+    of-gradient : Counted (s .grid) → Counted (s' .grid) → OfGradient each each' query (interpOneGradLeaves f s x refusal out) (interpOneGradLeaves f s' x refusal' out')
+    of-gradient counted counted' ps h =
+        let r = block-gradient f each each' query (outcomeOf each query) (outcomeOf each' query) (gradientAnswer f each query) (gradientAnswer f each' query) refl refl refl refl ps h in
+        let few = counted-to-query s (length x) (length refusal) (length out) (s .grid .axis-count) counted (h .0) .1 in
+        let few' = counted-to-query s' (length x) (length refusal') (length out') (s' .grid .axis-count) counted' (h .1) .1 in
+        let read = gradient-read f s x refusal out few (h .0) (r .0) in
+        let read' = gradient-read f s' x refusal' out' few' (h .1) (r .1) in
+        (read .0, read' .0, read .1 ∙ (λ i. take (h .2 i) (r .2 i)) ∙ sym (read' .1))
+
+  module _ (queries out out' : List Float) (refusal refusal' : List ℕ) where
+    abbrev many : Grid
+    many = lentTo s (length refusal)
+
+    abbrev many' : Grid
+    many' = lentTo s' (length refusal')
+
+    of-batch : Supplied f premises (s .grid) → Fits f queries → OfBatch f premises many many' queries out out' (interpLeaves f s queries refusal out) (interpLeaves f s' queries refusal' out')
+    unfolding interpLeaves
+    of-batch kind fit =
+        let o = interpOutcome f many queries out in
+        let after = interpBuffer f many queries out in
+        let number = number-read refusal after o in
+        record {
+          node = λ i node l h not-seven not-earlier.
+              let told = query-read refusal after o (refusal-holds s (length refusal) (h .0)) in
+              node-in-batch f premises many (supplied-to s (length refusal) kind) queries out after o (typed f queries fit) refl refl i node l h
+              (λ seven. not-seven (number ∙ seven)) (λ eight earlier. not-earlier (number ∙ eight) (subst (λ (q : ℕ). q < i) (sym (told eight)) earlier));
+          block = block-in-batch f many many' queries out after out' (interpBuffer f many' queries out') refl refl;
+        }
+
+    of-columns : Counted (s .grid) → OfColumns f many many' queries out out' (interpGradLeaves f s queries refusal out) (interpGradLeaves f s' queries refusal' out')
+    unfolding interpGradLeaves
+    of-columns counted =
+        block-in-columns f many many' queries out (gradBuffer f many queries out) out' (gradBuffer f many' queries out') (counted-to s (length refusal) counted) refl refl
+
+  pub owed : Supplied f premises (s .grid) → Supplied f premises (s' .grid) → Counted (s .grid) → Counted (s' .grid) → Owed f premises s s'
+  owed kind kind' counted counted' = record {
+    value = λ x out out' refusal refusal'. of-value x out out' refusal refusal' kind kind';
+    gradient = λ x out out' refusal refusal'. of-gradient x out out' refusal refusal' counted counted';
+    batch = λ queries out out' refusal refusal'. of-batch queries out out' refusal refusal' kind;
+    columns = λ queries out out' refusal refusal'. of-columns queries out out' refusal refusal' counted;
+  }

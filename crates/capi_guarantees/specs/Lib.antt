@@ -1,0 +1,2 @@
+-- What is guaranteed of the calls for C.
+pub mod Statements

@@ -1,0 +1,87 @@
+-- What is guaranteed of the calls for C: section 8 as `guarantees` states it, of what a caller reads after a call, on gathered grids of
+-- either kind and in any format. A grid is accepted as it is lent to the call: then every slice is long enough too.
+use Prim.Native.Nat.{ℕ}
+use mathlib.Core.Bool.{cond}
+use mathlib.Core.List.{List}
+use lib.Dec.{eqb}
+use lib.ListN.{length, getD, take}
+use lib.Ieee.{Float, nan, Format}
+use Rattle.multicubic.specs.declared.Answer.{Answer}
+use Rattle.multicubic.specs.declared.EdgeMode.{EdgeMode}
+use Rattle.multicubic.specs.declared.Outcome.{Outcome}
+use Rattle.multicubic.specs.declared.Outcome.the-variants.{Accepted, Refused}
+use Rattle.multicubic.specs.Answers.{answered}
+use Rattle.grid.specs.Query.{Grid, at}
+use Rattle.grid.specs.Nodes.{Fits}
+use Rattle.guarantees.specs.Statements.{NodeRule, NodeCorollary, NodeInBatch, BlockRule, BlockGradient, BlockInBatch, BlockInColumns}
+use Rattle.slices.specs.Slices.{countsFrom, queryFrom}
+use Rattle.slices.specs.Axes.{axesFrom}
+use Rattle.slices.specs.Lent.{Gathered, lentTo, lentToQuery}
+use Rattle.regular_query.specs.Grid as Reg
+use Rattle.rectilinear_order.specs.Grid.{axesOf}
+use Rattle.rectilinear_query.specs.Grid as Rect
+use Rattle.regular_lent.specs.Regular.{regularFrom}
+use Rattle.rectilinear_lent.specs.Rectilinear.{rectilinearFrom}
+use Rattle.told.specs.Told.{Leaves}
+use Rattle.capi.specs.Calls.{interpOneLeaves, interpOneGradLeaves, interpLeaves, interpGradLeaves}
+
+-- ---- what a caller reads
+-- number 0 is acceptance; on any other but 7, query and axis stand in `refusal`
+abbrev pub outcomeRead : {W : Type 0} → Leaves W → Outcome
+outcomeRead left = cond (eqb (left .number) 0) Accepted (Refused (left .number) (getD (left .refusal) 0 0) (getD (left .refusal) 1 0))
+
+-- the value is entry 0 of what is written
+abbrev pub answerRead : Leaves (List Float) → Answer
+answerRead left = answered (outcomeRead left) (getD (left .written) 0 nan)
+
+-- ---- what is owed of a call on two tables, from the grids as they are lent to it and what it leaves on each
+-- `interp_one`
+pub record OfValue (premises : Type 0) (g g' : Grid) (query : ℕ → Float) (left left' : Leaves (List Float)) : Type 0 where
+  pub node : NodeRule premises g query (answerRead left)
+  pub corollary : NodeCorollary premises g g' query (answerRead left) (answerRead left')
+  pub block : BlockRule g g' query (answerRead left) (answerRead left')
+
+-- `interp_one_grad`: the gradient is the first entries of what is written, one for each axis
+abbrev pub OfGradient : Grid → Grid → (ℕ → Float) → Leaves (List Float) → Leaves (List Float) → Type 0
+OfGradient g g' query left left' =
+    BlockGradient g g' query (outcomeRead left) (outcomeRead left') (take (g .axis-count) (left .written)) (take (g' .axis-count) (left' .written))
+
+-- `interp`
+pub record OfBatch (f : Format) (premises : Type 0) (g g' : Grid) (queries out out' : List Float) (left left' : Leaves (List Float)) : Type 0 where
+  pub node : NodeInBatch premises g queries (outcomeRead left) out (left .written)
+  pub block : BlockInBatch f g g' queries out (left .written) out' (left' .written)
+
+-- `interp_grad`
+abbrev pub OfColumns : Format → Grid → Grid → List Float → List Float → List Float → Leaves (List Float) → Leaves (List Float) → Type 0
+OfColumns f g g' queries out out' left left' = BlockInColumns f g g' queries out (left .written) out' (left' .written)
+
+-- ---- the calls, with any slices of the format's floats; each table's call has its own `refusal` and its own slice to write
+pub record Owed (f : Format) (premises : Type 0) (s s' : Gathered) : Type 0 where
+  pub value : (x value value' : List Float) (refusal refusal' : List ℕ) → Fits f x
+      → OfValue premises
+      (lentToQuery s (length x) (length refusal) (length value) 1) (lentToQuery s' (length x) (length refusal') (length value') 1)
+      (at (queryFrom x)) (interpOneLeaves f s x refusal value) (interpOneLeaves f s' x refusal' value')
+  pub gradient : (x gradient gradient' : List Float) (refusal refusal' : List ℕ)
+      → OfGradient
+      (lentToQuery s (length x) (length refusal) (length gradient) (s .grid .axis-count))
+      (lentToQuery s' (length x) (length refusal') (length gradient') (s' .grid .axis-count))
+      (at (queryFrom x)) (interpOneGradLeaves f s x refusal gradient) (interpOneGradLeaves f s' x refusal' gradient')
+  pub batch : (queries out out' : List Float) (refusal refusal' : List ℕ) → Fits f queries
+      → OfBatch f premises (lentTo s (length refusal)) (lentTo s' (length refusal'))
+      queries out out' (interpLeaves f s queries refusal out) (interpLeaves f s' queries refusal' out')
+  pub columns : (queries out out' : List Float) (refusal refusal' : List ℕ)
+      → OfColumns f (lentTo s (length refusal)) (lentTo s' (length refusal'))
+      queries out out' (interpGradLeaves f s queries refusal out) (interpGradLeaves f s' queries refusal' out')
+
+-- ---- either kind: two tables on the same axes, each with its own values and setting, within the kind's premises on the axes
+abbrev pub OwedRegular : Format → ℕ → List ℕ → List Float → List Float → Type 0
+OwedRegular f n counts starts steps =
+    (vals vals' : List Float) (mode mode' : EdgeMode) → Fits f vals → Fits f vals'
+    → Owed f (Reg.AllPremises (take n (axesFrom counts starts steps)))
+    (regularFrom f n counts starts steps vals mode) (regularFrom f n counts starts steps vals' mode')
+
+abbrev pub OwedRectilinear : Format → ℕ → List ℕ → List Float → Type 0
+OwedRectilinear f n counts axes =
+    (vals vals' : List Float) (mode mode' : EdgeMode) → Fits f axes → Fits f vals → Fits f vals'
+    → Owed f (Rect.AllPremises f (axesOf (take n (countsFrom counts)) axes))
+    (rectilinearFrom f n counts axes vals mode) (rectilinearFrom f n counts axes vals' mode')
