@@ -8,41 +8,46 @@ use Rattle.multicubic.specs.declared.Answer.{Answer}
 use Rattle.multicubic.specs.declared.Outcome.{Outcome}
 use Rattle.multicubic.specs.declared.Place.{Place}
 use Rattle.multicubic.specs.Answers.{numberOf, answerOutcome}
-use Rattle.grid.specs.Query.{at, outcomeOf, valueAnswer, gradientAnswer, placeAnswer}
+use Rattle.grid.specs.Query.{Grid, at, outcomeOf, valueAnswer, gradientAnswer, placeAnswer}
 use Rattle.grid.specs.Batch.{interpOutcome, interpBuffer, gradOutcome, gradBuffer}
 use Rattle.slices.specs.Slices.{queryFrom}
 use Rattle.slices.specs.Lent.{Gathered, lentTo, lentToQuery}
+use Rattle.slices.specs.Internal.{PlacesOn, GradientOn, InterpOn, InterpGradOn}
 use Rattle.told.specs.Told.{told, withValue, withFirst, withPlaces, Leaves, leaves}
 use Rattle.told.proofs.Laws.{left-by}
 use Rattle.capi.specs.Calls.{newLeaves, getLocLeaves, interpOneLeaves, interpOneGradLeaves, interpLeaves, interpGradLeaves}
 
-module _ (s : Gathered) (refusal : List ℕ) {number : ℕ} {after : List ℕ} {o : Outcome} (p : number ≡ numberOf o) (q : after ≡ told o refusal) where
-  pub new-leaves : o ≡ lentTo s (length refusal) .checked → _≡_ {A = Leaves Unit} (record { number = number; refusal = after; written = tt }) (newLeaves s refusal)
+module _ (s : Gathered) (refusal : List ℕ) {g : Grid} (lent : g ≡ lentTo s (length refusal)) {number : ℕ} {after : List ℕ} {o : Outcome} (p : number ≡ numberOf o) (q : after ≡ told o refusal) where
+  pub new-leaves : o ≡ g .checked → _≡_ {A = Leaves Unit} (record { number = number; refusal = after; written = tt }) (newLeaves s refusal)
   unfolding newLeaves
-  new-leaves e = left-by refusal p q e refl
+  new-leaves e = left-by refusal p q (e ∙ ap (λ g. g .checked) lent) refl
 
   module _ (f : Format) (queries out : List Float) {filled : List Float} where
-    pub interp-leaves : o ≡ interpOutcome f (lentTo s (length refusal)) queries out → filled ≡ interpBuffer f (lentTo s (length refusal)) queries out → _≡_ {A = Leaves (List Float)} (record { number = number; refusal = after; written = filled }) (interpLeaves f s queries refusal out)
+    pub interp-leaves : InterpOn f g queries out o filled → _≡_ {A = Leaves (List Float)} (record { number = number; refusal = after; written = filled }) (interpLeaves f s queries refusal out)
     unfolding interpLeaves
-    interp-leaves e w = left-by refusal p q e w
+    interp-leaves e = left-by refusal p q (e .0 ∙ ap (λ g. interpOutcome f g queries out) lent) (e .1 ∙ ap (λ g. interpBuffer f g queries out) lent)
 
-    pub interp-grad-leaves : o ≡ gradOutcome f (lentTo s (length refusal)) queries out → filled ≡ gradBuffer f (lentTo s (length refusal)) queries out → _≡_ {A = Leaves (List Float)} (record { number = number; refusal = after; written = filled }) (interpGradLeaves f s queries refusal out)
+    pub interp-grad-leaves : InterpGradOn f g queries out o filled → _≡_ {A = Leaves (List Float)} (record { number = number; refusal = after; written = filled }) (interpGradLeaves f s queries refusal out)
     unfolding interpGradLeaves
-    interp-grad-leaves e w = left-by refusal p q e w
+    interp-grad-leaves e = left-by refusal p q (e .0 ∙ ap (λ g. gradOutcome f g queries out) lent) (e .1 ∙ ap (λ g. gradBuffer f g queries out) lent)
 
-module _ (s : Gathered) (x : List Float) (refusal : List ℕ) where
-  abbrev query : ℕ → Float
-  query = at (queryFrom x)
-
+module _ (s : Gathered) (x : List Float) (refusal : List ℕ) {at-x : List Float} (query : at-x ≡ queryFrom x) {g : Grid} where
   module _ (f : Format) (value : List Float) {left : Leaves (List Float)} where
-    pub interp-one-leaves : {answer : Answer} → left ≡ leaves (answerOutcome answer) refusal (withValue answer value) → answer ≡ valueAnswer f (lentToQuery s (length x) (length refusal) (length value) 1) query → left ≡ interpOneLeaves f s x refusal value
+    pub interp-one-leaves : {answer : Answer} → g ≡ lentToQuery s (length x) (length refusal) (length value) 1 → left ≡ leaves (answerOutcome answer) refusal (withValue answer value) → answer ≡ valueAnswer f g (at at-x) → left ≡ interpOneLeaves f s x refusal value
     unfolding interpOneLeaves
-    interp-one-leaves p e = p ∙ ap (λ a. leaves (answerOutcome a) refusal (withValue a value)) e
+    interp-one-leaves lent p e = p ∙ ap (λ a. leaves (answerOutcome a) refusal (withValue a value)) (e ∙ (λ i. valueAnswer f (lent i) (at (query i))))
 
-    pub interp-one-grad-leaves : {o : Outcome} {components : List Float} → left ≡ leaves o refusal (withFirst o (s .grid .axis-count) components value) → o ≡ outcomeOf (lentToQuery s (length x) (length refusal) (length value) (s .grid .axis-count)) query → components ≡ gradientAnswer f (lentToQuery s (length x) (length refusal) (length value) (s .grid .axis-count)) query → left ≡ interpOneGradLeaves f s x refusal value
+    pub interp-one-grad-leaves : {o : Outcome} {components : List Float} → g ≡ lentToQuery s (length x) (length refusal) (length value) (s .grid .axis-count) → left ≡ leaves o refusal (withFirst o (s .grid .axis-count) components value) → GradientOn f g at-x o components → left ≡ interpOneGradLeaves f s x refusal value
     unfolding interpOneGradLeaves
-    interp-one-grad-leaves p e d = p ∙ (λ i. leaves (e i) refusal (withFirst (e i) (s .grid .axis-count) (d i) value))
+    interp-one-grad-leaves lent p e =
+        let outcome = e .0 ∙ (λ i. outcomeOf (lent i) (at (query i))) in
+        let components = e .1 ∙ (λ i. gradientAnswer f (lent i) (at (query i))) in
+        p ∙ (λ i. leaves (outcome i) refusal (withFirst (outcome i) (s .grid .axis-count) (components i) value))
 
-  pub get-loc-leaves : (origins classes : List ℕ) {left : Leaves (List ℕ × List ℕ)} {o : Outcome} {places : List Place} → left ≡ leaves o refusal (withPlaces o (s .grid .axis-count) places origins classes) → o ≡ outcomeOf (lentToQuery s (length x) (length refusal) (min (length origins) (length classes)) (s .grid .axis-count)) query → places ≡ placeAnswer (lentToQuery s (length x) (length refusal) (min (length origins) (length classes)) (s .grid .axis-count)) query → left ≡ getLocLeaves s x refusal origins classes
+  pub get-loc-leaves : (origins classes : List ℕ) {room : ℕ} {left : Leaves (List ℕ × List ℕ)} {o : Outcome} {places : List Place} → room ≡ min (length origins) (length classes) → g ≡ lentToQuery s (length x) (length refusal) room (s .grid .axis-count) → left ≡ leaves o refusal (withPlaces o (s .grid .axis-count) places origins classes) → PlacesOn g at-x o places → left ≡ getLocLeaves s x refusal origins classes
   unfolding getLocLeaves
-  get-loc-leaves origins classes p e d = p ∙ (λ i. leaves (e i) refusal (withPlaces (e i) (s .grid .axis-count) (d i) origins classes))
+  get-loc-leaves origins classes room lent p e =
+      let lent' = lent ∙ ap (λ r. lentToQuery s (length x) (length refusal) r (s .grid .axis-count)) room in
+      let outcome = e .0 ∙ (λ i. outcomeOf (lent' i) (at (query i))) in
+      let places = e .1 ∙ (λ i. placeAnswer (lent' i) (at (query i))) in
+      p ∙ (λ i. leaves (outcome i) refusal (withPlaces (outcome i) (s .grid .axis-count) (places i) origins classes))

@@ -7,6 +7,13 @@ ghost use Rattle.slices.specs.Slices.{modeOf};
 ghost use Rattle.regular_lent.specs.Regular.{regularFrom};
 ghost use Rattle.rectilinear_lent.specs.Rectilinear.{rectilinearFrom};
 ghost use Rattle.capi.specs.Calls.{newLeaves, getLocLeaves, interpOneLeaves, interpOneGradLeaves, interpLeaves, interpGradLeaves};
+use slices::axes_from;
+use slices::check_query_slices;
+use slices::check_slices;
+use slices::counts_from;
+use slices::least;
+use slices::query_from;
+use slices::shortest_of;
 use told::tell;
 use told::tell_gradient;
 use told::tell_places;
@@ -28,7 +35,9 @@ pub extern "C" fn veltzuma_regular_new(
         (regularFrom binary64 «axis_count» (now (counts .entry)) (now (starts .entry)) (now (steps .entry)) (now (vals .entry)) mode) (now (refusal .entry)))
         ⌝ }
 {
-    let outcome = regular_lent::new(axis_count, counts, starts, steps, vals, refusal.len());
+    let shortest = shortest_of(counts.len(), starts.len(), steps.len());
+    let slices = check_slices(axis_count, shortest, refusal.len());
+    let outcome = regular_lent::new(slices, axis_count, axes_from(counts, starts, steps), vals);
     tell(outcome, refusal)
 }
 
@@ -52,17 +61,18 @@ pub extern "C" fn veltzuma_regular_get_loc(
         (now (x .entry)) (now (refusal .entry)) (now (origins .entry)) (now (classes .entry)))
         ⌝ }
 {
-    let answer = regular_lent::get_loc(
+    let shortest = shortest_of(counts.len(), starts.len(), steps.len());
+    let room = least(origins.len(), classes.len());
+    let slices = check_query_slices(
         axis_count,
-        counts,
-        starts,
-        steps,
-        vals,
-        x,
+        shortest,
+        x.len(),
         refusal.len(),
-        origins.len(),
-        classes.len(),
+        room,
+        axis_count,
     );
+    let axes = axes_from(counts, starts, steps);
+    let answer = regular_lent::get_loc(slices, axis_count, axes, vals, query_from(x));
     tell_places(answer, axis_count, refusal, origins, classes)
 }
 
@@ -86,17 +96,12 @@ pub extern "C" fn veltzuma_regular_interp_one(
         (now (x .entry)) (now (refusal .entry)) (now (value .entry))
         ⌝ }
 {
-    let answer = regular_lent::interp_one(
-        axis_count,
-        counts,
-        starts,
-        steps,
-        vals,
-        straight,
-        x,
-        refusal.len(),
-        value.len(),
-    );
+    let shortest = shortest_of(counts.len(), starts.len(), steps.len());
+    let room = value.len();
+    let slices = check_query_slices(axis_count, shortest, x.len(), refusal.len(), room, 1);
+    let axes = axes_from(counts, starts, steps);
+    let at = query_from(x);
+    let answer = regular_lent::interp_one(slices, axis_count, axes, vals, straight, at);
     tell_value(answer, refusal, value)
 }
 
@@ -120,17 +125,19 @@ pub extern "C" fn veltzuma_regular_interp_one_grad(
         (now (x .entry)) (now (refusal .entry)) (now (gradient .entry))
         ⌝ }
 {
-    let answer = regular_lent::interp_one_grad(
+    let shortest = shortest_of(counts.len(), starts.len(), steps.len());
+    let room = gradient.len();
+    let slices = check_query_slices(
         axis_count,
-        counts,
-        starts,
-        steps,
-        vals,
-        straight,
-        x,
+        shortest,
+        x.len(),
         refusal.len(),
-        gradient.len(),
+        room,
+        axis_count,
     );
+    let axes = axes_from(counts, starts, steps);
+    let at = query_from(x);
+    let answer = regular_lent::interp_one_grad(slices, axis_count, axes, vals, straight, at);
     tell_gradient(answer, axis_count, refusal, gradient)
 }
 
@@ -154,17 +161,10 @@ pub extern "C" fn veltzuma_regular_interp(
         (now (queries .entry)) (now (refusal .entry)) (now (out .entry))
         ⌝ }
 {
-    let outcome = regular_lent::interp(
-        axis_count,
-        counts,
-        starts,
-        steps,
-        vals,
-        straight,
-        queries,
-        refusal.len(),
-        out,
-    );
+    let shortest = shortest_of(counts.len(), starts.len(), steps.len());
+    let slices = check_slices(axis_count, shortest, refusal.len());
+    let axes = axes_from(counts, starts, steps);
+    let outcome = regular_lent::interp(slices, axis_count, axes, vals, straight, queries, out);
     tell(outcome, refusal)
 }
 
@@ -188,17 +188,10 @@ pub extern "C" fn veltzuma_regular_interp_grad(
         (now (queries .entry)) (now (refusal .entry)) (now (out .entry))
         ⌝ }
 {
-    let outcome = regular_lent::interp_grad(
-        axis_count,
-        counts,
-        starts,
-        steps,
-        vals,
-        straight,
-        queries,
-        refusal.len(),
-        out,
-    );
+    let shortest = shortest_of(counts.len(), starts.len(), steps.len());
+    let slices = check_slices(axis_count, shortest, refusal.len());
+    let axes = axes_from(counts, starts, steps);
+    let outcome = regular_lent::interp_grad(slices, axis_count, axes, vals, straight, queries, out);
     tell(outcome, refusal)
 }
 
@@ -217,7 +210,8 @@ pub extern "C" fn veltzuma_rectilinear_new(
         (rectilinearFrom binary64 «axis_count» (now (counts .entry)) (now (axes .entry)) (now (vals .entry)) mode) (now (refusal .entry)))
         ⌝ }
 {
-    let outcome = rectilinear_lent::new(axis_count, counts, axes, vals, refusal.len());
+    let slices = check_slices(axis_count, counts.len(), refusal.len());
+    let outcome = rectilinear_lent::new(slices, axis_count, counts_from(counts), axes, vals);
     tell(outcome, refusal)
 }
 
@@ -240,16 +234,17 @@ pub extern "C" fn veltzuma_rectilinear_get_loc(
         (now (x .entry)) (now (refusal .entry)) (now (origins .entry)) (now (classes .entry)))
         ⌝ }
 {
-    let answer = rectilinear_lent::get_loc(
+    let room = least(origins.len(), classes.len());
+    let slices = check_query_slices(
         axis_count,
-        counts,
-        axes,
-        vals,
-        x,
+        counts.len(),
+        x.len(),
         refusal.len(),
-        origins.len(),
-        classes.len(),
+        room,
+        axis_count,
     );
+    let four = counts_from(counts);
+    let answer = rectilinear_lent::get_loc(slices, axis_count, four, axes, vals, query_from(x));
     tell_places(answer, axis_count, refusal, origins, classes)
 }
 
@@ -272,16 +267,11 @@ pub extern "C" fn veltzuma_rectilinear_interp_one(
         (now (x .entry)) (now (refusal .entry)) (now (value .entry))
         ⌝ }
 {
-    let answer = rectilinear_lent::interp_one(
-        axis_count,
-        counts,
-        axes,
-        vals,
-        straight,
-        x,
-        refusal.len(),
-        value.len(),
-    );
+    let room = value.len();
+    let slices = check_query_slices(axis_count, counts.len(), x.len(), refusal.len(), room, 1);
+    let four = counts_from(counts);
+    let at = query_from(x);
+    let answer = rectilinear_lent::interp_one(slices, axis_count, four, axes, vals, straight, at);
     tell_value(answer, refusal, value)
 }
 
@@ -304,15 +294,25 @@ pub extern "C" fn veltzuma_rectilinear_interp_one_grad(
         (now (x .entry)) (now (refusal .entry)) (now (gradient .entry))
         ⌝ }
 {
-    let answer = rectilinear_lent::interp_one_grad(
+    let room = gradient.len();
+    let slices = check_query_slices(
         axis_count,
-        counts,
+        counts.len(),
+        x.len(),
+        refusal.len(),
+        room,
+        axis_count,
+    );
+    let four = counts_from(counts);
+    let at = query_from(x);
+    let answer = rectilinear_lent::interp_one_grad(
+        slices,
+        axis_count,
+        four,
         axes,
         vals,
         straight,
-        x,
-        refusal.len(),
-        gradient.len(),
+        at,
     );
     tell_gradient(answer, axis_count, refusal, gradient)
 }
@@ -336,14 +336,16 @@ pub extern "C" fn veltzuma_rectilinear_interp(
         (now (queries .entry)) (now (refusal .entry)) (now (out .entry))
         ⌝ }
 {
+    let slices = check_slices(axis_count, counts.len(), refusal.len());
+    let four = counts_from(counts);
     let outcome = rectilinear_lent::interp(
+        slices,
         axis_count,
-        counts,
+        four,
         axes,
         vals,
         straight,
         queries,
-        refusal.len(),
         out,
     );
     tell(outcome, refusal)
@@ -368,14 +370,16 @@ pub extern "C" fn veltzuma_rectilinear_interp_grad(
         (now (queries .entry)) (now (refusal .entry)) (now (out .entry))
         ⌝ }
 {
+    let slices = check_slices(axis_count, counts.len(), refusal.len());
+    let four = counts_from(counts);
     let outcome = rectilinear_lent::interp_grad(
+        slices,
         axis_count,
-        counts,
+        four,
         axes,
         vals,
         straight,
         queries,
-        refusal.len(),
         out,
     );
     tell(outcome, refusal)

@@ -3,6 +3,7 @@
 use cases_calls::Score;
 use cases_calls::answered;
 use cases_calls::cubic;
+use cases_calls::kept;
 use cases_calls::not_placed;
 use cases_calls::rectilinear;
 use cases_calls::rectilinear_refused_order;
@@ -234,6 +235,44 @@ fn stopped(s: Score, z: &[f64]) -> Score {
     told(s, t, b"regular, 8: query 1 of a batch, axis 1")
 }
 
+// A grid that a caller keeps: the value at 1.5, and the refusals of one whose count or axis count was altered by hand.
+fn kept_on(
+    s: Score,
+    g: Group,
+    short: Group,
+    wide: Group,
+    at_1_5: &[u8],
+    count: &[u8],
+    axes: &[u8],
+) -> Score {
+    let x = [0.0, 1.0, 2.0, 3.0];
+    let v = [0.0, 1.0, 8.0, 27.0];
+    let s = kept(s, g, &x, &v, 0, 0x400B_0000_0000_0000, at_1_5);
+    let s = kept(s, short, part(&x, 0, 3), part(&v, 0, 3), 4, 0, count);
+    kept(s, wide, &x, &v, 1, 0, axes)
+}
+
+fn kept_grids(s: Score) -> Score {
+    let s = kept_on(
+        s,
+        regular(1, 4, 0, 0, 1.0, 1.0),
+        regular(1, 3, 0, 0, 1.0, 1.0),
+        regular(5, 4, 0, 0, 1.0, 1.0),
+        b"regular, kept: at 1.5",
+        b"regular, kept: 3 entries",
+        b"regular, kept: 5 axes",
+    );
+    kept_on(
+        s,
+        rectilinear(1, 4, 0, 0),
+        rectilinear(1, 3, 0, 0),
+        rectilinear(5, 4, 0, 0),
+        b"rectilinear, kept: at 1.5",
+        b"rectilinear, kept: 3 entries",
+        b"rectilinear, kept: 5 axes",
+    )
+}
+
 fn all(s: Score, z: &[f64]) -> Score {
     let s = cubes(s);
     let s = not_numbers(s);
@@ -243,7 +282,8 @@ fn all(s: Score, z: &[f64]) -> Score {
     let s = regular_batches(s, z);
     let s = rectilinear_batches(s, z);
     let s = unplaceable(s, z);
-    stopped(s, z)
+    let s = stopped(s, z);
+    kept_grids(s)
 }
 
 fn main() {

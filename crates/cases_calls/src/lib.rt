@@ -8,6 +8,7 @@ use harness_calls::NEW;
 use harness_calls::call_new;
 use harness_calls::same_outcome;
 use harness_calls::same_single;
+use harness_calls::same_value;
 use harness_corpus::Expected;
 use harness_corpus::Group;
 use harness_corpus::part;
@@ -16,6 +17,7 @@ use harness_report::say;
 use harness_report::say_difference_in;
 use harness_words::Tally;
 use harness_words::clear;
+use multicubic::Answer;
 use multicubic::Axis;
 use multicubic::EdgeMode;
 
@@ -197,6 +199,34 @@ pub fn not_placed(s: Score, g: Group, axes: &[f64], vals: &[f64], x: f64, name: 
     let w = walk(t, 8, 0, 0);
     let t = run_batches(one, axes, vals, &[x], w, &before, &before);
     told(s, t, name)
+}
+
+// The value on a grid that is made as a struct and asked.
+fn ask(g: Group, axes: &[f64], vals: &[f64], x: [f64; 4]) -> Answer {
+    let n = g.n;
+    let mode = g.mode;
+    if g.rectilinear {
+        let counts = g.counts;
+        return grids::ask_rectilinear(n, counts, axes, vals, mode, x);
+    }
+    let regular_axes = g.axes;
+    grids::ask_regular(n, regular_axes, vals, mode, x)
+}
+
+// A kept grid is asked at 1.5 on one axis: it answers the value where the number is 0, else it refuses by that number, at axis 0.
+pub fn kept(
+    s: Score,
+    g: Group,
+    axes: &[f64],
+    vals: &[f64],
+    number: u64,
+    value: u64,
+    name: &[u8],
+) -> Score {
+    let mut e = refusal(number, 0);
+    e.value = value;
+    let answer = ask(g, axes, vals, [1.5, 0.0, 0.0, 0.0]);
+    told(s, same_value(clear(), e, answer), name)
 }
 
 pub fn zeros() -> [f64; 8192]

@@ -11,7 +11,8 @@ use Rattle.multicubic.specs.declared.Outcome.the-variants.{Accepted}
 use Rattle.multicubic.specs.declared.Loc.the-variants.{At, Unplaceable}
 use Rattle.multicubic.specs.declared.Place.{Place}
 use Rattle.multicubic.specs.declared.PlaceAnswer.{PlaceAnswer}
-use Rattle.multicubic.specs.Place.{nowhere, fourNowhere, Placed, placed}
+use Rattle.multicubic.specs.Place.{nowhere, Placed, placed}
+use Rattle.multicubic.specs.Internal.{fourNowhere}
 use Rattle.grid.specs.Query.{GridAxis, Grid, Found, unplaceableAt, places, located, find, outcomeOf, placesOf, placeAnswer}
 use Rattle.grid.specs.Internal.{Located, noAxis}
 

@@ -154,7 +154,8 @@ fn same_places(t: Tally, e: Expected, answer: PlaceAnswer) -> Tally {
     same_place(t, 3, expected[3], places[3])
 }
 
-fn same_value(t: Tally, e: Expected, answer: Answer) -> Tally {
+// The value of a query, however it was asked.
+pub fn same_value(t: Tally, e: Expected, answer: Answer) -> Tally {
     let t = same_outcome(t, INTERP_ONE, e.number, 0, e.axis, outcome_of(answer));
     match answer {
         Answer::Value(x) => same_float(t, INTERP_ONE, VALUE, 0, e.value, x),

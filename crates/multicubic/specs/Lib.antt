@@ -3,3 +3,4 @@ pub mod Answers
 pub mod Same
 pub mod Grid
 pub mod Place
+pub mod Internal

@@ -1,7 +1,7 @@
 -- Clauses 3.1 and 3.4: origin and class from L, for an axis of n entries. Each kind of axis has its own L.
 use Prim.Native.Nat.{ℕ, zero, suc, _-_, min}
 use mathlib.Core.Bool.{Bool, true, false, cond}
-use mathlib.Core.List.{List, [], _∷_}
+use mathlib.Core.List.{List}
 use lib.IntN.{ℤ, pos, negsuc}
 use lib.Dec.{ltb, eqb}
 use lib.Ieee.{Float}
@@ -37,9 +37,6 @@ placeOf n l = record { origin = originOf n l; class = classOf n l }
 -- what stands in place of a place: past the axis count, and on refusal
 abbrev pub nowhere : Place
 nowhere = record { origin = 0; class = None }
-
-abbrev pub fourNowhere : List Place
-fourNowhere = nowhere ∷ nowhere ∷ nowhere ∷ nowhere ∷ []
 
 -- `linearize_extrapolation`: the two Outside classes follow a straight line
 abbrev pub straightOf : EdgeMode → Bool

@@ -6,7 +6,8 @@ ghost use lib.Dec.{ltb};
 ghost use lib.IntN.{pos, _-ℤ_};
 ghost use lib.ListN.{take};
 ghost use Rattle.multicubic.specs.Grid.{product, sum, anyOver, lowest, misjoined, sizeChecks};
-ghost use Rattle.multicubic.specs.Place.{fourNowhere, straightOf, placeOf};
+ghost use Rattle.multicubic.specs.Place.{straightOf, placeOf};
+ghost use Rattle.multicubic.specs.Internal.{fourNowhere};
 ghost use Rattle.multicubic.specs.Answers.{answerOutcome, answered};
 ghost use Rattle.multicubic.specs.Same.{asAnswer};
 

@@ -86,7 +86,9 @@ pub fn get_loc(
     ensures { λ r. ⌜
         ((mode : EdgeMode) → r .places ≡ placeAnswer (gridOf binary64 «axis_count» counts (now (axes .entry)) (now (vals .entry)) mode) (at x))
         ⌝ }
-    ensures { λ r. ⌜ ((mode : EdgeMode) → Says (r .outcome) (outcomeOf (gridOf binary64 «axis_count» counts (now (axes .entry)) (now (vals .entry)) mode) (at x))) ⌝ }
+    ensures { λ r. ⌜
+        ((mode : EdgeMode) → Says (r .outcome) (outcomeOf (gridOf binary64 «axis_count» counts (now (axes .entry)) (now (vals .entry)) mode) (at x)))
+        ⌝ }
 {
     let checked = new(axis_count, counts, axes, vals);
     match checked {

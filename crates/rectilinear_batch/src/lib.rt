@@ -97,7 +97,8 @@ pub fn interp(
         (now (queries .entry)) (now (out .entry))
         ⌝ }
     ensures { λ r. ⌜
-        Says r (interpOutcome binary64 (gridOf binary64 «axis_count» counts (now (axes .entry)) (now (vals .entry)) mode) (now (queries .entry)) (now (out .entry)))
+        Says r (interpOutcome binary64 (gridOf binary64 «axis_count» counts (now (axes .entry)) (now (vals .entry)) mode)
+        (now (queries .entry)) (now (out .entry)))
         ⌝ }
 {
     let checked = check_values(
@@ -192,7 +193,8 @@ pub fn interp_grad(
         (now (queries .entry)) (now (out .entry))
         ⌝ }
     ensures { λ r. ⌜
-        Says r (gradOutcome binary64 (gridOf binary64 «axis_count» counts (now (axes .entry)) (now (vals .entry)) mode) (now (queries .entry)) (now (out .entry)))
+        Says r (gradOutcome binary64 (gridOf binary64 «axis_count» counts (now (axes .entry)) (now (vals .entry)) mode)
+        (now (queries .entry)) (now (out .entry)))
         ⌝ }
 {
     let checked = check_gradients(

@@ -9,15 +9,15 @@ use Rattle.ieee.specs.Numbers.{zero}
 use Rattle.multicubic.specs.declared.Outcome.{Outcome}
 use Rattle.multicubic.specs.declared.Outcome.the-variants.{Accepted, Refused}
 use Rattle.multicubic.specs.Answers.{answered}
-use Rattle.multicubic.specs.Place.{fourNowhere}
+use Rattle.multicubic.specs.Internal.{fourNowhere}
 use Rattle.grid.specs.Query.{Grid, at, outcomeOf, valueAnswer, gradientAnswer, placeAnswer}
 use Rattle.grid.specs.Batch.{interpOutcome, interpBuffer, gradOutcome, gradBuffer}
-use Rattle.slices.specs.Slices.{queryFrom, lower}
+use Rattle.slices.specs.Slices.{lower}
 use Rattle.slices.specs.Lent.{lent}
 use Rattle.slices.specs.Internal.{PlacesOn, GradientOn, InterpOn, InterpGradOn}
 
-pub whole : {slices given : Outcome} (g : Grid) → slices ≡ Accepted → slices ≡ given → g ≡ lent given g
-whole g e same = λ i. lent ((sym e ∙ same) i) g
+pub whole : {slices : Outcome} (g : Grid) → slices ≡ Accepted → g ≡ lent slices g
+whole g e = λ i. lent (sym e i) g
 
 -- the grid, its checks aside
 abbrev checkedBy : Outcome → Grid → Grid
@@ -31,30 +31,30 @@ lower-refuses k q a (Refused number query axis) = go (ltb number k)
     go true = (number, query, axis, refl)
     go false = (k, q, a, refl)
 
-module _ {o slices given : Outcome} {k q a : ℕ} (g : Grid) (p : o ≡ lower slices (g .checked)) (e : slices ≡ Refused k q a) (same : slices ≡ given) where
+module _ {o slices : Outcome} {k q a : ℕ} (g : Grid) (p : o ≡ lower slices (g .checked)) (e : slices ≡ Refused k q a) where
   -- what a call answers on every refused grid is its answer here
-  refused : {X : Type 0} (call : Grid → X) (answer : Outcome → X) → ((number query axis : ℕ) → answer (Refused number query axis) ≡ call (checkedBy (Refused number query axis) g)) → answer o ≡ call (lent given g)
+  refused : {X : Type 0} (call : Grid → X) (answer : Outcome → X) → ((number query axis : ℕ) → answer (Refused number query axis) ≡ call (checkedBy (Refused number query axis) g)) → answer o ≡ call (lent slices g)
   refused call answer each =
       let l = lower-refuses k q a (g .checked) in
       let r = ap (λ s. lower s (g .checked)) e ∙ l .3 in
-      ap answer (p ∙ r) ∙ each (l .0) (l .1) (l .2) ∙ sym (ap (λ o. call (checkedBy o g)) r) ∙ ap (λ s. call (lent s g)) same
+      ap answer (p ∙ r) ∙ each (l .0) (l .1) (l .2) ∙ sym (ap (λ o. call (checkedBy o g)) r)
 
   module _ (x : List Float) where
-    outcome : o ≡ outcomeOf (lent given g) (at (queryFrom x))
-    outcome = refused (λ g. outcomeOf g (at (queryFrom x))) (λ o. o) (λ number query axis. refl)
+    outcome : o ≡ outcomeOf (lent slices g) (at x)
+    outcome = refused (λ g. outcomeOf g (at x)) (λ o. o) (λ number query axis. refl)
 
-    pub refused-value : (f : Format) (value : Float) → answered o value ≡ valueAnswer f (lent given g) (at (queryFrom x))
-    refused-value f value = refused (λ g. valueAnswer f g (at (queryFrom x))) (λ o. answered o value) (λ number query axis. refl)
+    pub refused-value : (f : Format) (value : Float) → answered o value ≡ valueAnswer f (lent slices g) (at x)
+    refused-value f value = refused (λ g. valueAnswer f g (at x)) (λ o. answered o value) (λ number query axis. refl)
 
-    pub refused-gradient : (f : Format) → GradientOn f (lent given g) x o (zero ∷ zero ∷ zero ∷ zero ∷ [])
-    refused-gradient f = (outcome, refused (λ g. gradientAnswer f g (at (queryFrom x))) (λ o. zero ∷ zero ∷ zero ∷ zero ∷ []) (λ number query axis. refl))
+    pub refused-gradient : (f : Format) → GradientOn f (lent slices g) x o (zero ∷ zero ∷ zero ∷ zero ∷ [])
+    refused-gradient f = (outcome, refused (λ g. gradientAnswer f g (at x)) (λ o. zero ∷ zero ∷ zero ∷ zero ∷ []) (λ number query axis. refl))
 
-    pub refused-places : PlacesOn (lent given g) x o fourNowhere
-    refused-places = (outcome, refused (λ g. placeAnswer g (at (queryFrom x))) (λ o. fourNowhere) (λ number query axis. refl))
+    pub refused-places : PlacesOn (lent slices g) x o fourNowhere
+    refused-places = (outcome, refused (λ g. placeAnswer g (at x)) (λ o. fourNowhere) (λ number query axis. refl))
 
   module _ (f : Format) (queries out : List Float) where
-    pub refused-interp : InterpOn f (lent given g) queries out o out
+    pub refused-interp : InterpOn f (lent slices g) queries out o out
     refused-interp = (refused (λ g. interpOutcome f g queries out) (λ o. o) (λ number query axis. refl), refused (λ g. interpBuffer f g queries out) (λ o. out) (λ number query axis. refl))
 
-    pub refused-interp-grad : InterpGradOn f (lent given g) queries out o out
+    pub refused-interp-grad : InterpGradOn f (lent slices g) queries out o out
     refused-interp-grad = (refused (λ g. gradOutcome f g queries out) (λ o. o) (λ number query axis. refl), refused (λ g. gradBuffer f g queries out) (λ o. out) (λ number query axis. refl))

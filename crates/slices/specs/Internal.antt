@@ -7,13 +7,12 @@ use Rattle.multicubic.specs.declared.Outcome.{Outcome}
 use Rattle.multicubic.specs.declared.Place.{Place}
 use Rattle.grid.specs.Query.{Grid, at, outcomeOf, gradientAnswer, placeAnswer}
 use Rattle.grid.specs.Batch.{interpOutcome, interpBuffer, gradOutcome, gradBuffer}
-use Rattle.slices.specs.Slices.{queryFrom}
 
 abbrev pub PlacesOn : Grid → List Float → Outcome → List Place → Type 0
-PlacesOn g x outcome places = (outcome ≡ outcomeOf g (at (queryFrom x))) × (places ≡ placeAnswer g (at (queryFrom x)))
+PlacesOn g x outcome places = (outcome ≡ outcomeOf g (at x)) × (places ≡ placeAnswer g (at x))
 
 abbrev pub GradientOn : Format → Grid → List Float → Outcome → List Float → Type 0
-GradientOn f g x outcome gradient = (outcome ≡ outcomeOf g (at (queryFrom x))) × (gradient ≡ gradientAnswer f g (at (queryFrom x)))
+GradientOn f g x outcome gradient = (outcome ≡ outcomeOf g (at x)) × (gradient ≡ gradientAnswer f g (at x))
 
 abbrev pub InterpOn : Format → Grid → List Float → List Float → Outcome → List Float → Type 0
 InterpOn f g queries before outcome after = (outcome ≡ interpOutcome f g queries before) × (after ≡ interpBuffer f g queries before)

@@ -1,12 +1,19 @@
 -- The gradient is told and written.
+use denote.Ref.{now}
+use lib.Ieee.{binary64}
+use Rattle.slices.specs.Slices.{modeOf}
 use Rattle.rectilinear_lent.specs.Rectilinear.{rectilinearFrom}
+use Rattle.rectilinear_lent.proofs.Gathering.{lent-to-query}
 use Rattle.capi.proofs.Laws.{interp-one-grad-leaves}
 use Rattle.capi.proofs.veltzuma_rectilinear_interp_one_grad.Statement.{statement}
 use Rattle.capi.proofs.veltzuma_rectilinear_interp_one_grad.Tie as tie
 
 told : tie.Need-returns
 unfolding rectilinearFrom
-told c = interp-one-grad-leaves _ _ _ _ _ (c .before .before .before .before .tell-gradient .ensures) (c .before .before .before .before .before .before .before .interp-one-grad .ensures .0) (c .before .before .before .before .before .before .before .interp-one-grad .ensures .1)
+told c =
+    let a = c .before .before .before .before .before .before .before .before .before .before .before .before .before .before .before .before .before .args in
+    let lent = lent-to-query binary64 (a .axis-count) (now (a .counts)) (now (a .axes)) (now (a .vals)) (modeOf (a .straight)) (c .before .before .before .before .before .before .before .before .before .counts-from .ensures) _ _ _ _ (c .before .before .before .before .before .before .before .before .before .before .check-query-slices .ensures) in
+    interp-one-grad-leaves (rectilinearFrom binary64 (a .axis-count) (now (a .counts)) (now (a .axes)) (now (a .vals)) (modeOf (a .straight))) (now (a .x)) (now (a .refusal)) (c .before .before .before .before .before .before .before .before .query-from .ensures) binary64 (now (a .gradient)) lent (c .before .before .before .before .tell-gradient .ensures) (c .before .before .before .before .before .before .before .interp-one-grad .ensures)
 
 pub veltzuma-rectilinear-interp-one-grad-spec : {M : Type 1} → statement M
-veltzuma-rectilinear-interp-one-grad-spec = tie.close (tie.spec (λ c κs. tt) (λ c κs. tt) (λ c. c .before .before .before .before .tell-gradient .kept .1 .1 .0) (λ c. c .before .before .before .before .tell-gradient .kept .1 .1 .1 .0) told)
+veltzuma-rectilinear-interp-one-grad-spec = tie.close (tie.spec (λ c κs. tt) (λ c κs. tt) (λ c κs. tt) (λ c κs. tt) (λ c κs. tt) (λ c. c .before .before .before .before .tell-gradient .kept .1 .1 .0) (λ c. c .before .before .before .before .tell-gradient .kept .1 .1 .1 .0) told)

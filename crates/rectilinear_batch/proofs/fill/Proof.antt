@@ -1,9 +1,10 @@
 -- `fill`: each turn puts one answer more, or meets the refusal.
 use Prim.Native.Nat.{_*_, _≤_, _-_}
-use mathlib.Core.Path.{_≡_, _∙_, refl}
+use mathlib.Core.Path.{_≡_, _∙_, refl, ap}
 use native.Mathlib.Omega.{arith}
 use lib.ListN.{length}
 use lib.Ieee.{binary64}
+use Rattle.multicubic.specs.Same.{asAnswer}
 use Rattle.grid.proofs.Running.{Filling, filling-none, filling-turn, filling-refused, filling-done}
 use Rattle.rectilinear_query.specs.Grid.{axesIn}
 use borrow.Author.Needs.{needs}
@@ -32,13 +33,13 @@ same-length c = c .before .before .before .before .before .loop .inv .4 .same-le
 
 returns : tie.Need-returns Inv-loop μ-loop
 returns c =
-    let w = filling-refused (c .before .before .before .before .before .loop .inv .4) (c .before .before .before .before .loop-test .taken) (c .before .before .before .answer-at .ensures) (c .before .enum-told .given .1) in
+    let w = filling-refused (c .before .before .before .before .before .loop .inv .4) (c .before .before .before .before .loop-test .taken) (c .before .before .before .answer-at .ensures) (ap asAnswer (c .before .enum-told .given .1)) in
     (c .outcome-of .ensures ∙ w .0, w .1)
 
 loop-again : tie.Need-loop-again Inv-loop μ-loop
 loop-again c =
     let l = c .before .before .before .before .before in
-    let next = filling-turn (l .loop .inv .4) (c .before .before .before .before .loop-test .taken) (c .before .before .before .answer-at .ensures) (c .before .answer .given .1) in
+    let next = filling-turn (l .loop .inv .4) (c .before .before .before .before .loop-test .taken) (c .before .before .before .answer-at .ensures) (ap asAnswer (c .before .answer .given .1)) in
     (omega arith, l .loop .inv .1, next .same-length, l .loop .inv .3, next)
 
 same-length-2 : tie.Need-same-length-2 Inv-loop μ-loop

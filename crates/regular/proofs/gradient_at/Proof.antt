@@ -1,10 +1,11 @@
 -- `gradient_at`: each turn adds a component, or meets the query's refusal.
 use Prim.Native.Nat.{_≤_, _-_}
-use mathlib.Core.Path.{_≡_, _∙_, refl}
+use mathlib.Core.Path.{_≡_, _∙_, refl, ap}
 use native.Mathlib.Omega.{arith}
 use lib.ListN.{length}
 use lib.Ieee.{binary64, ofBits}
 use denote.Ref.{now}
+use Rattle.multicubic.specs.Same.{asAnswer}
 use Rattle.grid.proofs.Fit.{Fit}
 use Rattle.grid.proofs.Singles.{Grading, grading-none, grading-turn, grading-refused, grading-done}
 use Rattle.regular_query.specs.Grid.{axesIn}
@@ -48,13 +49,13 @@ returns : tie.Need-returns Inv-loop μ-loop
 unfolding ofBits
 returns c =
     let l = c .before .before .before .before .before .before in
-    let w = grading-refused (fits l) (l .loop .inv .5) (c .before .before .before .before .before .loop-test .taken) (c .before .before .before .answer-at .ensures) (c .before .enum-told .given .1) in
+    let w = grading-refused (fits l) (l .loop .inv .5) (c .before .before .before .before .before .loop-test .taken) (c .before .before .before .answer-at .ensures) (ap asAnswer (c .before .enum-told .given .1)) in
     (c .outcome-of .ensures ∙ w .0, w .1)
 
 loop-again : tie.Need-loop-again Inv-loop μ-loop
 loop-again c =
     let l = c .before .before .before .before .before .before in
-    let next = grading-turn (fits l) (l .loop .inv .5) (c .before .before .before .before .before .loop-test .taken) (c .before .before .before .answer-at .ensures) (c .before .component .given .1) in
+    let next = grading-turn (fits l) (l .loop .inv .5) (c .before .before .before .before .before .loop-test .taken) (c .before .before .before .answer-at .ensures) (ap asAnswer (c .before .component .given .1)) in
     (omega arith, l .loop .inv .1, l .loop .inv .2, l .loop .inv .3, l .loop .inv .4, next)
 
 returns-2 : tie.Need-returns-2 Inv-loop μ-loop

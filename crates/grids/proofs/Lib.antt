@@ -1,0 +1,10 @@
+mod Batch
+mod Fields
+mod Kept
+mod Locals
+mod Made
+mod Query
+mod Rectilinear
+mod Regular
+mod Together
+mod Walks

@@ -1,0 +1,249 @@
+// The grids of src/multicubic as values that a caller keeps: each holds what `new` of its kind is given, the slices by reference.
+// Every function takes its grid apart and makes the plain call, which checks the grid again; so a grid altered by hand meets its refusals.
+ghost use mathlib.Core.Path.{_≡_};
+ghost use lib.ListN.{length};
+ghost use lib.Ieee.{binary64};
+ghost use Rattle.multicubic.specs.Answers.{Says, answerOutcome, valueIn};
+ghost use Rattle.multicubic.specs.Same.{asAnswer};
+ghost use Rattle.multicubic.specs.declared.EdgeMode.{EdgeMode};
+ghost use Rattle.grid.specs.Query.{outcomeOf, at, placeAnswer, valueAnswer, valueCarried, gradientAnswer};
+ghost use Rattle.grid.specs.Batch.{interpOutcome, interpBuffer, gradOutcome, gradBuffer};
+ghost use Rattle.regular_query.specs.Grid.{checksOf as regularChecks, gridOf as regularOf};
+ghost use Rattle.rectilinear_query.specs.Grid.{checksOf as rectilinearChecks, gridOf as rectilinearOf};
+ghost use Rattle.grids.specs.Held.{heldRegular, heldRectilinear};
+use multicubic::Answer;
+use multicubic::Axis;
+use multicubic::EdgeMode;
+use multicubic::GradientAnswer;
+use multicubic::Outcome;
+use multicubic::PlaceAnswer;
+
+// A regular grid.
+pub struct MulticubicRegular<'a> {
+    pub axis_count: usize,
+    pub axes: [Axis; 4],
+    pub vals: &'a [f64],
+    pub mode: EdgeMode,
+}
+
+// A rectilinear grid; its axes are joined one after the other.
+pub struct MulticubicRectilinear<'a, 'b> {
+    pub axis_count: usize,
+    pub counts: [usize; 4],
+    pub axes: &'a [f64],
+    pub vals: &'b [f64],
+    pub mode: EdgeMode,
+}
+
+// Keeps what it is given, and judges nothing.
+pub fn keep_regular<'a>(
+    axis_count: usize,
+    axes: [Axis; 4],
+    vals: &'a [f64],
+    mode: EdgeMode,
+) -> MulticubicRegular<'a>
+    ensures { λ r. ⌜ r ≡ record { «axis_count» = «axis_count»; axes = axes; vals = vals .entry; mode = mode } ⌝ }
+{
+    MulticubicRegular {
+        axis_count,
+        axes,
+        vals,
+        mode,
+    }
+}
+
+// The verdict of `regular::new` on the grid.
+pub fn regular_new<'a>(g: MulticubicRegular<'a>) -> Outcome
+    ensures { λ r. ⌜ r ≡ regularChecks (g .entry .«axis_count») (g .entry .axes) (length (now (g .entry .vals))) ⌝ }
+    ensures { λ r. ⌜ Says r (regularChecks (g .entry .«axis_count») (g .entry .axes) (length (now (g .entry .vals)))) ⌝ }
+{
+    regular::new(g.axis_count, g.axes, g.vals)
+}
+
+// The place of a query on the grid, whatever its mode.
+pub fn regular_get_loc<'a>(g: MulticubicRegular<'a>, x: [f64; 4]) -> PlaceAnswer
+    ensures { λ r. ⌜
+        ((mode : EdgeMode) → r .outcome ≡ outcomeOf (regularOf binary64 (g .entry .«axis_count») (g .entry .axes) (now (g .entry .vals)) mode) (at x))
+        ⌝ }
+    ensures { λ r. ⌜
+        ((mode : EdgeMode) → r .places ≡ placeAnswer (regularOf binary64 (g .entry .«axis_count») (g .entry .axes) (now (g .entry .vals)) mode) (at x))
+        ⌝ }
+    ensures { λ r. ⌜
+        ((mode : EdgeMode) → Says (r .outcome) (outcomeOf (regularOf binary64 (g .entry .«axis_count») (g .entry .axes) (now (g .entry .vals)) mode) (at x)))
+        ⌝ }
+{
+    regular::get_loc(g.axis_count, g.axes, g.vals, x)
+}
+
+// The value at a query, or the refusal.
+pub fn regular_interp_one<'a>(g: MulticubicRegular<'a>, x: [f64; 4]) -> Answer
+    ensures { λ r. ⌜ asAnswer r ≡ valueAnswer binary64 (heldRegular binary64 (g .entry)) (at x) ⌝ }
+    ensures { λ r. ⌜ Says (answerOutcome (asAnswer r)) (outcomeOf (heldRegular binary64 (g .entry)) (at x)) ⌝ }
+    ensures { λ r. ⌜ valueIn (asAnswer r) ≡ valueCarried binary64 (heldRegular binary64 (g .entry)) (at x) ⌝ }
+{
+    regular::interp_one(g.axis_count, g.axes, g.vals, g.mode, x)
+}
+
+// The gradient at a query, or the refusal.
+pub fn regular_interp_one_grad<'a>(g: MulticubicRegular<'a>, x: [f64; 4]) -> GradientAnswer
+    ensures { λ r. ⌜ r .outcome ≡ outcomeOf (heldRegular binary64 (g .entry)) (at x) ⌝ }
+    ensures { λ r. ⌜ r .gradient ≡ gradientAnswer binary64 (heldRegular binary64 (g .entry)) (at x) ⌝ }
+    ensures { λ r. ⌜ Says (r .outcome) (outcomeOf (heldRegular binary64 (g .entry)) (at x)) ⌝ }
+{
+    regular::interp_one_grad(g.axis_count, g.axes, g.vals, g.mode, x)
+}
+
+// The value of every query.
+pub fn regular_interp<'a, 'b, 'c>(
+    g: MulticubicRegular<'a>,
+    queries: &'b [f64],
+    out: &'c mut [f64],
+) -> Outcome
+    ensures { λ r. ⌜ r ≡ interpOutcome binary64 (heldRegular binary64 (g .entry)) (now (queries .entry)) (now (out .entry)) ⌝ }
+    ensures { λ r. ⌜ now (out .exit) ≡ interpBuffer binary64 (heldRegular binary64 (g .entry)) (now (queries .entry)) (now (out .entry)) ⌝ }
+    ensures { λ r. ⌜ Says r (interpOutcome binary64 (heldRegular binary64 (g .entry)) (now (queries .entry)) (now (out .entry))) ⌝ }
+{
+    regular_batch::interp(g.axis_count, g.axes, g.vals, g.mode, queries, out)
+}
+
+// The gradient of every query.
+pub fn regular_interp_grad<'a, 'b, 'c>(
+    g: MulticubicRegular<'a>,
+    queries: &'b [f64],
+    out: &'c mut [f64],
+) -> Outcome
+    ensures { λ r. ⌜ r ≡ gradOutcome binary64 (heldRegular binary64 (g .entry)) (now (queries .entry)) (now (out .entry)) ⌝ }
+    ensures { λ r. ⌜ now (out .exit) ≡ gradBuffer binary64 (heldRegular binary64 (g .entry)) (now (queries .entry)) (now (out .entry)) ⌝ }
+    ensures { λ r. ⌜ Says r (gradOutcome binary64 (heldRegular binary64 (g .entry)) (now (queries .entry)) (now (out .entry))) ⌝ }
+{
+    regular_batch::interp_grad(g.axis_count, g.axes, g.vals, g.mode, queries, out)
+}
+
+// Makes the grid and asks it: for callers that can have no local of the struct.
+pub fn ask_regular(
+    axis_count: usize,
+    axes: [Axis; 4],
+    vals: &[f64],
+    mode: EdgeMode,
+    x: [f64; 4],
+) -> Answer
+    ensures { λ r. ⌜ asAnswer r ≡ valueAnswer binary64 (regularOf binary64 «axis_count» axes (now (vals .entry)) mode) (at x) ⌝ }
+    ensures { λ r. ⌜ Says (answerOutcome (asAnswer r)) (outcomeOf (regularOf binary64 «axis_count» axes (now (vals .entry)) mode) (at x)) ⌝ }
+    ensures { λ r. ⌜ valueIn (asAnswer r) ≡ valueCarried binary64 (regularOf binary64 «axis_count» axes (now (vals .entry)) mode) (at x) ⌝ }
+{
+    regular_interp_one(keep_regular(axis_count, axes, vals, mode), x)
+}
+
+// Keeps what it is given, and judges nothing.
+pub fn keep_rectilinear<'a, 'b>(
+    axis_count: usize,
+    counts: [usize; 4],
+    axes: &'a [f64],
+    vals: &'b [f64],
+    mode: EdgeMode,
+) -> MulticubicRectilinear<'a, 'b>
+    ensures { λ r. ⌜ r ≡ record { «axis_count» = «axis_count»; counts = counts; axes = axes .entry; vals = vals .entry; mode = mode } ⌝ }
+{
+    MulticubicRectilinear {
+        axis_count,
+        counts,
+        axes,
+        vals,
+        mode,
+    }
+}
+
+// The verdict of `rectilinear::new` on the grid.
+pub fn rectilinear_new<'a, 'b>(g: MulticubicRectilinear<'a, 'b>) -> Outcome
+    ensures { λ r. ⌜ r ≡ rectilinearChecks (g .entry .«axis_count») (g .entry .counts) (now (g .entry .axes)) (length (now (g .entry .vals))) ⌝ }
+    ensures { λ r. ⌜ Says r (rectilinearChecks (g .entry .«axis_count») (g .entry .counts) (now (g .entry .axes)) (length (now (g .entry .vals)))) ⌝ }
+{
+    rectilinear::new(g.axis_count, g.counts, g.axes, g.vals)
+}
+
+// The place of a query on the grid, whatever its mode.
+pub fn rectilinear_get_loc<'a, 'b>(g: MulticubicRectilinear<'a, 'b>, x: [f64; 4]) -> PlaceAnswer
+    ensures { λ r. ⌜
+        ((mode : EdgeMode) → r .outcome ≡ outcomeOf
+        (rectilinearOf binary64 (g .entry .«axis_count») (g .entry .counts) (now (g .entry .axes)) (now (g .entry .vals)) mode) (at x))
+        ⌝ }
+    ensures { λ r. ⌜
+        ((mode : EdgeMode) → r .places ≡ placeAnswer
+        (rectilinearOf binary64 (g .entry .«axis_count») (g .entry .counts) (now (g .entry .axes)) (now (g .entry .vals)) mode) (at x))
+        ⌝ }
+    ensures { λ r. ⌜
+        ((mode : EdgeMode) → Says (r .outcome)
+        (outcomeOf (rectilinearOf binary64 (g .entry .«axis_count») (g .entry .counts) (now (g .entry .axes)) (now (g .entry .vals)) mode) (at x)))
+        ⌝ }
+{
+    rectilinear::get_loc(g.axis_count, g.counts, g.axes, g.vals, x)
+}
+
+// The value at a query, or the refusal.
+pub fn rectilinear_interp_one<'a, 'b>(g: MulticubicRectilinear<'a, 'b>, x: [f64; 4]) -> Answer
+    ensures { λ r. ⌜ asAnswer r ≡ valueAnswer binary64 (heldRectilinear binary64 (g .entry)) (at x) ⌝ }
+    ensures { λ r. ⌜ Says (answerOutcome (asAnswer r)) (outcomeOf (heldRectilinear binary64 (g .entry)) (at x)) ⌝ }
+    ensures { λ r. ⌜ valueIn (asAnswer r) ≡ valueCarried binary64 (heldRectilinear binary64 (g .entry)) (at x) ⌝ }
+{
+    rectilinear::interp_one(g.axis_count, g.counts, g.axes, g.vals, g.mode, x)
+}
+
+// The gradient at a query, or the refusal.
+pub fn rectilinear_interp_one_grad<'a, 'b>(
+    g: MulticubicRectilinear<'a, 'b>,
+    x: [f64; 4],
+) -> GradientAnswer
+    ensures { λ r. ⌜ r .outcome ≡ outcomeOf (heldRectilinear binary64 (g .entry)) (at x) ⌝ }
+    ensures { λ r. ⌜ r .gradient ≡ gradientAnswer binary64 (heldRectilinear binary64 (g .entry)) (at x) ⌝ }
+    ensures { λ r. ⌜ Says (r .outcome) (outcomeOf (heldRectilinear binary64 (g .entry)) (at x)) ⌝ }
+{
+    rectilinear::interp_one_grad(g.axis_count, g.counts, g.axes, g.vals, g.mode, x)
+}
+
+// The value of every query.
+pub fn rectilinear_interp<'a, 'b, 'c, 'd>(
+    g: MulticubicRectilinear<'a, 'b>,
+    queries: &'c [f64],
+    out: &'d mut [f64],
+) -> Outcome
+    ensures { λ r. ⌜ r ≡ interpOutcome binary64 (heldRectilinear binary64 (g .entry)) (now (queries .entry)) (now (out .entry)) ⌝ }
+    ensures { λ r. ⌜ now (out .exit) ≡ interpBuffer binary64 (heldRectilinear binary64 (g .entry)) (now (queries .entry)) (now (out .entry)) ⌝ }
+    ensures { λ r. ⌜ Says r (interpOutcome binary64 (heldRectilinear binary64 (g .entry)) (now (queries .entry)) (now (out .entry))) ⌝ }
+{
+    rectilinear_batch::interp(g.axis_count, g.counts, g.axes, g.vals, g.mode, queries, out)
+}
+
+// The gradient of every query.
+pub fn rectilinear_interp_grad<'a, 'b, 'c, 'd>(
+    g: MulticubicRectilinear<'a, 'b>,
+    queries: &'c [f64],
+    out: &'d mut [f64],
+) -> Outcome
+    ensures { λ r. ⌜ r ≡ gradOutcome binary64 (heldRectilinear binary64 (g .entry)) (now (queries .entry)) (now (out .entry)) ⌝ }
+    ensures { λ r. ⌜ now (out .exit) ≡ gradBuffer binary64 (heldRectilinear binary64 (g .entry)) (now (queries .entry)) (now (out .entry)) ⌝ }
+    ensures { λ r. ⌜ Says r (gradOutcome binary64 (heldRectilinear binary64 (g .entry)) (now (queries .entry)) (now (out .entry))) ⌝ }
+{
+    rectilinear_batch::interp_grad(g.axis_count, g.counts, g.axes, g.vals, g.mode, queries, out)
+}
+
+// Makes the grid and asks it: for callers that can have no local of the struct.
+pub fn ask_rectilinear(
+    axis_count: usize,
+    counts: [usize; 4],
+    axes: &[f64],
+    vals: &[f64],
+    mode: EdgeMode,
+    x: [f64; 4],
+) -> Answer
+    ensures { λ r. ⌜
+        asAnswer r ≡ valueAnswer binary64 (rectilinearOf binary64 «axis_count» counts (now (axes .entry)) (now (vals .entry)) mode) (at x)
+        ⌝ }
+    ensures { λ r. ⌜
+        Says (answerOutcome (asAnswer r)) (outcomeOf (rectilinearOf binary64 «axis_count» counts (now (axes .entry)) (now (vals .entry)) mode) (at x))
+        ⌝ }
+    ensures { λ r. ⌜
+        valueIn (asAnswer r) ≡ valueCarried binary64 (rectilinearOf binary64 «axis_count» counts (now (axes .entry)) (now (vals .entry)) mode) (at x)
+        ⌝ }
+{
+    rectilinear_interp_one(keep_rectilinear(axis_count, counts, axes, vals, mode), x)
+}

@@ -1,0 +1,8 @@
+-- What an internal function tells; no entry point's contract mentions it.
+use mathlib.Core.List.{List, [], _∷_}
+use Rattle.multicubic.specs.declared.Place.{Place}
+use Rattle.multicubic.specs.Place.{nowhere}
+
+-- the four places of a refusal
+abbrev pub fourNowhere : List Place
+fourNowhere = nowhere ∷ nowhere ∷ nowhere ∷ nowhere ∷ []
