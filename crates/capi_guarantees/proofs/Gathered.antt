@@ -9,7 +9,7 @@ use Rattle.regular_lent.specs.Regular.{regularFrom}
 use Rattle.rectilinear_lent.specs.Rectilinear.{rectilinearFrom}
 use Rattle.regular_guarantees.proofs.Supplied as Reg
 use Rattle.rectilinear_guarantees.proofs.Supplied as Rect
-use Rattle.capi_guarantees.specs.Statements.{OwedRegular, OwedRectilinear}
+use Rattle.capi_guarantees.specs.Gathered.{OwedRegular, OwedRectilinear}
 use Rattle.capi_guarantees.proofs.Typing.{typed}
 use Rattle.capi_guarantees.proofs.Owed.{owed}
 

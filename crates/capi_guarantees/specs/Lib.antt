@@ -1,2 +1,3 @@
 -- What is guaranteed of the calls for C.
 pub mod Statements
+pub mod Gathered

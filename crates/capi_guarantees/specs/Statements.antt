@@ -7,21 +7,14 @@ use lib.Dec.{eqb}
 use lib.ListN.{length, getD, take}
 use lib.Ieee.{Float, nan, Format}
 use Rattle.multicubic.specs.declared.Answer.{Answer}
-use Rattle.multicubic.specs.declared.EdgeMode.{EdgeMode}
 use Rattle.multicubic.specs.declared.Outcome.{Outcome}
 use Rattle.multicubic.specs.declared.Outcome.the-variants.{Accepted, Refused}
 use Rattle.multicubic.specs.Answers.{answered}
 use Rattle.grid.specs.Query.{Grid, at}
 use Rattle.grid.specs.Nodes.{Fits}
 use Rattle.guarantees.specs.Statements.{NodeRule, NodeCorollary, NodeInBatch, BlockRule, BlockGradient, BlockInBatch, BlockInColumns}
-use Rattle.slices.specs.Slices.{countsFrom, queryFrom}
-use Rattle.slices.specs.Axes.{axesFrom}
+use Rattle.slices.specs.Slices.{queryFrom}
 use Rattle.slices.specs.Lent.{Gathered, lentTo, lentToQuery}
-use Rattle.regular_query.specs.Grid as Reg
-use Rattle.rectilinear_order.specs.Grid.{axesOf}
-use Rattle.rectilinear_query.specs.Grid as Rect
-use Rattle.regular_lent.specs.Regular.{regularFrom}
-use Rattle.rectilinear_lent.specs.Rectilinear.{rectilinearFrom}
 use Rattle.told.specs.Told.{Leaves}
 use Rattle.capi.specs.Calls.{interpOneLeaves, interpOneGradLeaves, interpLeaves, interpGradLeaves}
 
@@ -72,16 +65,3 @@ pub record Owed (f : Format) (premises : Type 0) (s s' : Gathered) : Type 0 wher
   pub columns : (queries out out' : List Float) (refusal refusal' : List ℕ)
       → OfColumns f (lentTo s (length refusal)) (lentTo s' (length refusal'))
       queries out out' (interpGradLeaves f s queries refusal out) (interpGradLeaves f s' queries refusal' out')
-
--- ---- either kind: two tables on the same axes, each with its own values and setting, within the kind's premises on the axes
-abbrev pub OwedRegular : Format → ℕ → List ℕ → List Float → List Float → Type 0
-OwedRegular f n counts starts steps =
-    (vals vals' : List Float) (mode mode' : EdgeMode) → Fits f vals → Fits f vals'
-    → Owed f (Reg.AllPremises (take n (axesFrom counts starts steps)))
-    (regularFrom f n counts starts steps vals mode) (regularFrom f n counts starts steps vals' mode')
-
-abbrev pub OwedRectilinear : Format → ℕ → List ℕ → List Float → Type 0
-OwedRectilinear f n counts axes =
-    (vals vals' : List Float) (mode mode' : EdgeMode) → Fits f axes → Fits f vals → Fits f vals'
-    → Owed f (Rect.AllPremises f (axesOf (take n (countsFrom counts)) axes))
-    (rectilinearFrom f n counts axes vals mode) (rectilinearFrom f n counts axes vals' mode')

@@ -1,5 +1,5 @@
 -- An array of structs as a field and as a parameter: a struct's field stands at the elements' tuples, `map to xs`, a parameter at the records, `xs`.
--- Then an enum and an array of numbers, which a field and a parameter spell apart too. Assumes nothing.
+-- Then an enum and an array of numbers, which a field and a parameter spell apart too.
 use mathlib.Core.Path.{_≡_, _∙_, refl, sym, ap, subst}
 use Prim.Native.Nat.{ℕ}
 use mathlib.Core.List.{List, [], _∷_, map, map-map}

@@ -1,4 +1,4 @@
--- The parameters of a function, in two lists one after the other: their values, their machine values, what they own, and what is said of them at exit. Assumes nothing.
+-- The parameters of a function, in two lists one after the other: their values, their machine values, what they own, and what is said of them at exit.
 use mathlib.Core.Path.{_≡_, refl, sym, ap, _∙_}
 use Prim.Native.Nat.{ℕ}
 use mathlib.Core.List.{List, [], _∷_, _++_, append-assoc}

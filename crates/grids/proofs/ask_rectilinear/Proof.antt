@@ -1,4 +1,4 @@
--- `grids::ask_rectilinear` meets its contract: `keep_rectilinear` makes the struct in a local, and `rectilinear_interp_one` is asked. Assumes nothing.
+-- `ask_rectilinear`: `keep_rectilinear` makes the struct in a local, and `rectilinear_interp_one` is asked.
 use mathlib.Core.Path.{refl}
 use contract.Running.{givenOf, tables, tablesOf}
 use denote.Triple.Spec.{tripleOf}

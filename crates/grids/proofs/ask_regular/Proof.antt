@@ -1,4 +1,4 @@
--- `grids::ask_regular` meets its contract: `keep_regular` makes the struct in a local, and `regular_interp_one` is asked. Assumes nothing.
+-- `ask_regular`: `keep_regular` makes the struct in a local, and `regular_interp_one` is asked.
 use mathlib.Core.Path.{refl}
 use contract.Running.{givenOf, tables, tablesOf}
 use denote.Triple.Spec.{tripleOf}

@@ -1,4 +1,4 @@
--- `grids::keep_rectilinear` meets its contract: the struct is made of the parameters. Assumes nothing.
+-- `keep_rectilinear`: the struct is made of the parameters.
 use mathlib.Core.Path.{refl}
 use contract.Running.{givenOf, tables, tablesOf}
 use denote.Triple.Spec.{tripleOf}

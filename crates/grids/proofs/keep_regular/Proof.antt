@@ -1,4 +1,4 @@
--- `grids::keep_regular` meets its contract: the struct is made of the parameters. Assumes nothing.
+-- `keep_regular`: the struct is made of the parameters.
 use mathlib.Core.Path.{refl}
 use contract.Running.{givenOf, tables, tablesOf}
 use denote.Triple.Spec.{tripleOf}

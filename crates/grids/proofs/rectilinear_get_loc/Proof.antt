@@ -1,4 +1,4 @@
--- `grids::rectilinear_get_loc` meets its contract: the struct is taken apart for `rectilinear::get_loc`. Assumes nothing.
+-- `rectilinear_get_loc`: the struct is taken apart for `rectilinear::get_loc`.
 use mathlib.Core.Path.{refl}
 use Rattle.grids.proofs.Kept.{proved}
 use Rattle.grids.proofs.Query.{places, query-meets}

@@ -1,4 +1,4 @@
--- `grids::rectilinear_interp` meets its contract: the struct is taken apart for `rectilinear_batch::interp`, and the buffer is lent on. Assumes nothing.
+-- `rectilinear_interp`: the struct is taken apart for `rectilinear_batch::interp`, and the buffer is lent on.
 use mathlib.Core.Path.{refl}
 use Rattle.grids.proofs.Kept.{proved}
 use Rattle.grids.proofs.Batch.{batch-meets}

@@ -1,4 +1,4 @@
--- `grids::rectilinear_interp_one` meets its contract: the struct is taken apart for `rectilinear::interp_one`. Assumes nothing.
+-- `rectilinear_interp_one`: the struct is taken apart for `rectilinear::interp_one`.
 use mathlib.Core.Path.{refl}
 use Rattle.grids.proofs.Kept.{proved}
 use Rattle.grids.proofs.Query.{answer, query-meets}

@@ -1,4 +1,4 @@
--- `grids::rectilinear_new` meets its contract: the struct is taken apart for `rectilinear::new`. Assumes nothing.
+-- `rectilinear_new`: the struct is taken apart for `rectilinear::new`.
 use mathlib.Core.Path.{refl}
 use Rattle.grids.proofs.Kept.{proved}
 use Rattle.grids.proofs.Query.{outcome, verdict-meets}

@@ -1,4 +1,4 @@
--- `grids::regular_get_loc` meets its contract: the struct is taken apart for `regular::get_loc`. Assumes nothing.
+-- `regular_get_loc`: the struct is taken apart for `regular::get_loc`.
 use mathlib.Core.Path.{refl}
 use Rattle.grids.proofs.Kept.{proved}
 use Rattle.grids.proofs.Query.{places, query-meets}

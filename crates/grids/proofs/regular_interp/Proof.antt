@@ -1,4 +1,4 @@
--- `grids::regular_interp` meets its contract: the struct is taken apart for `regular_batch::interp`, and the buffer is lent on. Assumes nothing.
+-- `regular_interp`: the struct is taken apart for `regular_batch::interp`, and the buffer is lent on.
 use mathlib.Core.Path.{refl}
 use Rattle.grids.proofs.Kept.{proved}
 use Rattle.grids.proofs.Batch.{batch-meets}

@@ -1,4 +1,4 @@
--- `grids::regular_interp_one` meets its contract: the struct is taken apart for `regular::interp_one`. Assumes nothing.
+-- `regular_interp_one`: the struct is taken apart for `regular::interp_one`.
 use mathlib.Core.Path.{refl}
 use Rattle.grids.proofs.Kept.{proved}
 use Rattle.grids.proofs.Query.{answer, query-meets}

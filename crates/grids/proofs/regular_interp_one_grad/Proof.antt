@@ -1,4 +1,4 @@
--- `grids::regular_interp_one_grad` meets its contract: the struct is taken apart for `regular::interp_one_grad`. Assumes nothing.
+-- `regular_interp_one_grad`: the struct is taken apart for `regular::interp_one_grad`.
 use mathlib.Core.Path.{refl}
 use Rattle.grids.proofs.Kept.{proved}
 use Rattle.grids.proofs.Query.{gradient, query-meets}

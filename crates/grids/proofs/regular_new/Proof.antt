@@ -1,4 +1,4 @@
--- `grids::regular_new` meets its contract: the struct is taken apart for `regular::new`. Assumes nothing.
+-- `regular_new`: the struct is taken apart for `regular::new`.
 use mathlib.Core.Path.{refl}
 use Rattle.grids.proofs.Kept.{proved}
 use Rattle.grids.proofs.Query.{outcome, verdict-meets}
