@@ -1,10 +1,11 @@
-mod Batch
-mod Fields
-mod Kept
-mod Locals
-mod Made
-mod Query
-mod Rectilinear
-mod Regular
-mod Together
-mod Walks
+-- The walks of functions over a kept grid, and what differs by kind.
+pub mod Batch
+pub mod Fields
+pub mod Kept
+pub mod Locals
+pub mod Made
+pub mod Query
+pub mod Rectilinear
+pub mod Regular
+pub mod Together
+pub mod Walks
