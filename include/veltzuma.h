@@ -1,6 +1,7 @@
 /* Veltzuma: value, gradient and place of a query on a cubic surface over a measured grid, for C.
  *
- * The archive is libcapi.a (`rt staticlib capi`), for x86-64. Link it as it is; it needs no other library.
+ * The archives are libcapi.a (`rt staticlib capi`) and, for single precision, libcapi_f32.a (`rt staticlib capi_f32`), for x86-64. Link them
+ * as they are; they need no other library.
  *
  * Every call takes any input. A slice is a pointer and a length in entries, and may have any length; a null pointer with length 0
  * is an empty slice, a null pointer with another length is not allowed. The slices of one call must not overlap. Nothing is kept
@@ -87,6 +88,44 @@ uint8_t veltzuma_regular_interp_grad(VELTZUMA_REGULAR, bool straight, const doub
                                      size_t *refusal, size_t refusal_len, double *out, size_t out_len);
 uint8_t veltzuma_rectilinear_interp_grad(VELTZUMA_RECTILINEAR, bool straight, const double *queries, size_t queries_len,
                                          size_t *refusal, size_t refusal_len, double *out, size_t out_len);
+
+/* The same calls in single precision, float for double, in libcapi_f32.a. Each operation is rounded in that width. Both archives can be
+ * linked into one program. */
+#define VELTZUMA_REGULAR_F32                                                                                                       \
+    size_t axis_count, const size_t *counts, size_t counts_len, const float *starts, size_t starts_len, const float *steps,   \
+        size_t steps_len, const float *vals, size_t vals_len
+
+#define VELTZUMA_RECTILINEAR_F32                                                                                                   \
+    size_t axis_count, const size_t *counts, size_t counts_len, const float *axes, size_t axes_len, const float *vals,        \
+        size_t vals_len
+
+uint8_t veltzuma_regular_new_f32(VELTZUMA_REGULAR_F32, size_t *refusal, size_t refusal_len);
+uint8_t veltzuma_rectilinear_new_f32(VELTZUMA_RECTILINEAR_F32, size_t *refusal, size_t refusal_len);
+
+uint8_t veltzuma_regular_get_loc_f32(VELTZUMA_REGULAR_F32, const float *x, size_t x_len, size_t *refusal, size_t refusal_len,
+                                 size_t *origins, size_t origins_len, uint8_t *classes, size_t classes_len);
+uint8_t veltzuma_rectilinear_get_loc_f32(VELTZUMA_RECTILINEAR_F32, const float *x, size_t x_len, size_t *refusal, size_t refusal_len,
+                                     size_t *origins, size_t origins_len, uint8_t *classes, size_t classes_len);
+
+uint8_t veltzuma_regular_interp_one_f32(VELTZUMA_REGULAR_F32, bool straight, const float *x, size_t x_len, size_t *refusal,
+                                    size_t refusal_len, float *value, size_t value_len);
+uint8_t veltzuma_rectilinear_interp_one_f32(VELTZUMA_RECTILINEAR_F32, bool straight, const float *x, size_t x_len, size_t *refusal,
+                                        size_t refusal_len, float *value, size_t value_len);
+
+uint8_t veltzuma_regular_interp_one_grad_f32(VELTZUMA_REGULAR_F32, bool straight, const float *x, size_t x_len, size_t *refusal,
+                                         size_t refusal_len, float *gradient, size_t gradient_len);
+uint8_t veltzuma_rectilinear_interp_one_grad_f32(VELTZUMA_RECTILINEAR_F32, bool straight, const float *x, size_t x_len,
+                                             size_t *refusal, size_t refusal_len, float *gradient, size_t gradient_len);
+
+uint8_t veltzuma_regular_interp_f32(VELTZUMA_REGULAR_F32, bool straight, const float *queries, size_t queries_len, size_t *refusal,
+                                size_t refusal_len, float *out, size_t out_len);
+uint8_t veltzuma_rectilinear_interp_f32(VELTZUMA_RECTILINEAR_F32, bool straight, const float *queries, size_t queries_len,
+                                    size_t *refusal, size_t refusal_len, float *out, size_t out_len);
+
+uint8_t veltzuma_regular_interp_grad_f32(VELTZUMA_REGULAR_F32, bool straight, const float *queries, size_t queries_len,
+                                     size_t *refusal, size_t refusal_len, float *out, size_t out_len);
+uint8_t veltzuma_rectilinear_interp_grad_f32(VELTZUMA_RECTILINEAR_F32, bool straight, const float *queries, size_t queries_len,
+                                         size_t *refusal, size_t refusal_len, float *out, size_t out_len);
 
 #ifdef __cplusplus
 }

@@ -5,7 +5,7 @@
 #   or a folder of the flat files src--src--lib.rs.txt and so on.
 # REGISTRY: the folder of crate sources with num-traits, crunchy and autocfg;
 #   else where Debian puts them (apt-get install -y librust-num-traits-dev librust-crunchy-dev).
-# CAPI_DIR: the folder that holds libcapi.a. Without it only `corpus` is built.
+# CAPI_DIR: the folder that holds libcapi.a and libcapi_f32.a. Without it only `corpus` is built.
 # Results: target/release (as measured) and target/checked (whole-number overflow panics).
 set -eu
 here=$(cd "$(dirname "$0")" && pwd)
@@ -52,7 +52,9 @@ programs="--bin corpus"
 if [ -n "${CAPI_DIR:-}" ]; then
     CAPI_DIR=$(cd "$CAPI_DIR" && pwd)
     export CAPI_DIR
-    [ -f "$CAPI_DIR/libcapi.a" ] || { echo "build.sh: no libcapi.a in $CAPI_DIR" >&2; exit 2; }
+    for archive in libcapi.a libcapi_f32.a; do
+        [ -f "$CAPI_DIR/$archive" ] || { echo "build.sh: no $archive in $CAPI_DIR" >&2; exit 2; }
+    done
     programs="$programs --bin compare --bin bench"
 fi
 # RUSTFLAGS is emptied: the plain baseline of the target, no target-cpu=native.

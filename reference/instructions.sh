@@ -1,16 +1,18 @@
 #!/bin/sh
 # Instructions per query of both sides, counted by callgrind. Needs target/release/bench (build.sh with CAPI_DIR).
-#   ./instructions.sh [CASE...]       without a name: every case of `bench list`
+#   ./instructions.sh [f32] [CASE...]       without a name: every case of `bench list`
 # A case is run twice, TIMES once and three times; the difference is two batches without the making of the table.
 set -eu
 here=$(cd "$(dirname "$0")" && pwd)
 bench="$here/target/release/bench"
 queries=2000
+width=
+if [ "${1:-}" = f32 ]; then width=f32; shift; fi
 [ $# -gt 0 ] || set -- $("$bench" list)
 
 # count SIDE CASE TIMES: instructions of the whole run.
 count() {
-    valgrind --tool=callgrind --callgrind-out-file=/dev/null "$bench" once "$1" "$2" "$3" "$queries" 2>&1 >/dev/null |
+    valgrind --tool=callgrind --callgrind-out-file=/dev/null "$bench" $width once "$1" "$2" "$3" "$queries" 2>&1 >/dev/null |
         sed -n 's/^==[0-9]*== Collected *: *\([0-9]*\).*/\1/p'
 }
 # per_query SIDE CASE

@@ -1,5 +1,7 @@
 //! Random grids and queries, the same for the same seed. Used by `corpus` and `compare`.
 //! All grids made here are ordered, so that both sides take them or both refuse them.
+//! The draws of f64 must not change: the corpus of f64 is made of them.
+use crate::width::Width;
 
 /// splitmix64: small, and the same on every machine.
 pub struct Rng(pub u64);
@@ -33,27 +35,27 @@ impl Rng {
 }
 
 #[derive(Clone, Debug)]
-pub enum Axis {
-    Regular { start: f64, step: f64, n: usize },
-    Rectilinear(Vec<f64>),
+pub enum Axis<T> {
+    Regular { start: T, step: T, n: usize },
+    Rectilinear(Vec<T>),
 }
-impl Axis {
+impl<T: Width> Axis<T> {
     pub fn n(&self) -> usize {
         match self {
             Axis::Regular { n, .. } => *n,
             Axis::Rectilinear(a) => a.len(),
         }
     }
-    pub fn node(&self, i: usize) -> f64 {
+    pub fn node(&self, i: usize) -> T {
         match self {
-            Axis::Regular { start, step, .. } => *start + *step * i as f64,
+            Axis::Regular { start, step, .. } => *start + *step * T::of(i as f64),
             Axis::Rectilinear(a) => a[i],
         }
     }
     /// Whether the quotient is exactly -2^63, where the two sides are meant to differ.
-    pub fn apart(&self, x: f64) -> bool {
+    pub fn apart(&self, x: T) -> bool {
         match self {
-            Axis::Regular { start, step, .. } => (x - *start) / *step == -pow2(63),
+            Axis::Regular { start, step, .. } => (x - *start) / *step == -T::of(pow2(63)),
             Axis::Rectilinear(_) => false,
         }
     }
@@ -61,18 +63,18 @@ impl Axis {
 
 /// A grid in the form that the C calls take. Fields of the other kind stay empty.
 #[derive(Clone, Debug)]
-pub struct Grid {
+pub struct Grid<T> {
     pub rectilinear: bool,
     /// The Rust's linearize_extrapolation.
     pub straight: bool,
     pub counts: Vec<usize>,
-    pub starts: Vec<f64>,
-    pub steps: Vec<f64>,
-    pub joined: Vec<f64>,
-    pub values: Vec<f64>,
+    pub starts: Vec<T>,
+    pub steps: Vec<T>,
+    pub joined: Vec<T>,
+    pub values: Vec<T>,
 }
-impl Grid {
-    pub fn new(axes: &[Axis], values: Vec<f64>, straight: bool) -> Grid {
+impl<T: Width> Grid<T> {
+    pub fn new(axes: &[Axis<T>], values: Vec<T>, straight: bool) -> Grid<T> {
         let mut g = Grid {
             rectilinear: matches!(axes[0], Axis::Rectilinear(_)),
             straight,
@@ -95,7 +97,7 @@ impl Grid {
     }
     /// The joined axes cut apart by the counts; the last axis takes what is left, so that a joined length that is
     /// wrong reaches the Rust as a count that does not fit the values.
-    pub fn cut(&self) -> Vec<&[f64]> {
+    pub fn cut(&self) -> Vec<&[T]> {
         let mut rest = &self.joined[..];
         let last = self.counts.len() - 1;
         let mut parts = vec![];
@@ -109,7 +111,7 @@ impl Grid {
     }
 }
 
-pub fn product(axes: &[Axis]) -> usize {
+pub fn product<T: Width>(axes: &[Axis<T>]) -> usize {
     axes.iter().map(Axis::n).product()
 }
 
@@ -121,54 +123,62 @@ fn number(r: &mut Rng) -> f64 {
     (r.unit() * 2.0 - 1.0) * pow2(r.range(-10, 10))
 }
 
-pub fn subnormal(r: &mut Rng) -> f64 {
-    f64::from_bits((r.next() >> 12 >> r.below(50)) | (r.next() & 1) << 63)
+pub fn subnormal<T: Width>(r: &mut Rng) -> T {
+    let digits = r.next() >> (65 - T::DIGITS) >> r.below(T::DIGITS as usize - 3);
+    T::from_bits(digits | (r.next() & 1) << (T::SIZE - 1))
+}
+
+/// The least number above zero.
+fn least<T: Width>() -> T {
+    T::zero().up()
 }
 
 // ---- axes ----
 
-pub fn regular_axis(r: &mut Rng, flavour: &str, n: usize) -> Axis {
+pub fn regular_axis<T: Width>(r: &mut Rng, flavour: &str, n: usize) -> Axis<T> {
+    let rounded = |(start, step): (f64, f64)| (T::of(start), T::of(step));
     let (start, step) = match flavour {
         // Steps a power of two, starts whole multiples of them: nodes are exact.
         "exact" => {
             let e = r.range(-20, 20);
-            (r.range(-(1 << 20), 1 << 20) as f64 * pow2(e), pow2(e))
+            rounded((r.range(-(1 << 20), 1 << 20) as f64 * pow2(e), pow2(e)))
         }
-        "whole" => (r.range(-9, 9) as f64, r.pick(&[1.0, 2.0, 0.5, 3.0])),
-        "plain" => (number(r), r.pick(&[0.1, 0.3, 1.0 / 3.0, 1.7, 0.01, 123.456])),
-        "wild" => (number(r) * pow2(r.range(-60, 60)), (1.0 + r.unit()) * pow2(r.range(-60, 60))),
+        "whole" => rounded((r.range(-9, 9) as f64, r.pick(&[1.0, 2.0, 0.5, 3.0]))),
+        "plain" => rounded((number(r), r.pick(&[0.1, 0.3, 1.0 / 3.0, 1.7, 0.01, 123.456]))),
+        "wild" => rounded((number(r) * pow2(r.range(-60, 60)), (1.0 + r.unit()) * pow2(r.range(-60, 60)))),
         "huge" => {
-            let e = 1023 - r.range(0, 12);
-            ((r.unit() * 2.0 - 1.0) * pow2(e), (1.0 + r.unit()) * pow2(e - r.range(0, 6) - 1))
+            let e = T::TOP - r.range(0, 12);
+            rounded(((r.unit() * 2.0 - 1.0) * pow2(e), (1.0 + r.unit()) * pow2(e - r.range(0, 6) - 1)))
         }
         "extreme" => (
-            r.pick(&[-f64::MAX, f64::MAX, 0.0, -0.0, 1.0]),
-            r.pick(&[f64::MAX, f64::MIN_POSITIVE, 0f64.next_up(), f64::INFINITY, 1.0]),
+            r.pick(&[-T::MAX, T::MAX, T::of(0.0), T::of(-0.0), T::of(1.0)]),
+            r.pick(&[T::MAX, T::MIN_POSITIVE, least(), T::INFINITY, T::of(1.0)]),
         ),
         "tiny" => {
-            let s = subnormal(r).abs().max(0f64.next_up());
-            (subnormal(r), r.pick(&[s, 0f64.next_up(), f64::MIN_POSITIVE, pow2(-1019)]))
+            let s = subnormal::<T>(r).abs().max(least());
+            (subnormal(r), r.pick(&[s, least(), T::MIN_POSITIVE, T::MIN_POSITIVE * T::of(8.0)]))
         }
         // Starts that are not finite: no query can be placed.
-        "lost" => (r.pick(&[f64::INFINITY, f64::NEG_INFINITY, f64::NAN]), r.pick(&[f64::INFINITY, 1.0, 0.25])),
+        "lost" => (r.pick(&[T::INFINITY, T::NEG_INFINITY, T::NAN]), r.pick(&[T::INFINITY, T::of(1.0), T::of(0.25)])),
         // Quotients come out as wanted: start 0, step a power of two.
-        "quotient" => (r.pick(&[0.0, -0.0]), pow2(r.range(-20, 20))),
+        "quotient" => rounded((r.pick(&[0.0, -0.0]), pow2(r.range(-20, 20)))),
         "bits" => {
-            let step = f64::from_bits(r.next() & !(1 << 63));
-            (f64::from_bits(r.next()), if step > 0.0 { step } else { 1.0 })
+            let step = T::from_bits(r.next()).abs();
+            (T::from_bits(r.next()), if step > T::zero() { step } else { T::one() })
         }
         _ => unreachable!(),
     };
     Axis::Regular { start, step, n }
 }
 
-pub fn rectilinear_axis(r: &mut Rng, flavour: &str, n: usize) -> Axis {
-    let rising = |r: &mut Rng, first: f64, gap: &mut dyn FnMut(&mut Rng) -> f64| {
+pub fn rectilinear_axis<T: Width>(r: &mut Rng, flavour: &str, n: usize) -> Axis<T> {
+    // Each sum is rounded; where it does not rise, the next number above is taken.
+    let rising = |r: &mut Rng, first: T, gap: &mut dyn FnMut(&mut Rng) -> T| {
         let mut a = vec![first];
         while a.len() < n {
             let last = a[a.len() - 1];
             let next = last + gap(r);
-            a.push(if next > last { next } else { last.next_up() });
+            a.push(if next > last { next } else { last.up() });
         }
         a
     };
@@ -176,24 +186,24 @@ pub fn rectilinear_axis(r: &mut Rng, flavour: &str, n: usize) -> Axis {
         "exact" => {
             let first = r.range(-(1 << 20), 1 << 20) as f64 * pow2(r.range(-20, 0));
             let wide = r.coin();
-            rising(r, first, &mut |r| pow2(if wide { r.range(-20, 19) } else { r.range(-3, 3) }))
+            rising(r, T::of(first), &mut |r| T::of(pow2(if wide { r.range(-20, 19) } else { r.range(-3, 3) })))
         }
         "whole" => {
             let first = r.range(-9, 9) as f64;
-            rising(r, first, &mut |r| r.range(1, 4) as f64)
+            rising(r, T::of(first), &mut |r| T::of(r.range(1, 4) as f64))
         }
         "plain" => {
             let first = number(r);
-            rising(r, first, &mut |r| 0.05 + r.unit())
+            rising(r, T::of(first), &mut |r| T::of(0.05 + r.unit()))
         }
         "wild" => {
             let first = number(r);
-            rising(r, first, &mut |r| (1.0 + r.unit()) * pow2(r.range(-40, 40)))
+            rising(r, T::of(first), &mut |r| T::of((1.0 + r.unit()) * pow2(r.range(-40, 40))))
         }
         // Equal neighbours after entry 1.
         "flat" => {
             let first = number(r);
-            let mut a = rising(r, first, &mut |r| 0.05 + r.unit());
+            let mut a = rising(r, T::of(first), &mut |r| T::of(0.05 + r.unit()));
             for _ in 0..r.range(1, 3) {
                 let i = 2 + r.below(n - 2);
                 a[i] = a[i - 1];
@@ -203,41 +213,43 @@ pub fn rectilinear_axis(r: &mut Rng, flavour: &str, n: usize) -> Axis {
         // -0 and +0 as equal neighbours after entry 1.
         "zeros" => {
             let k = 1 + r.below(n - 2);
-            let mut a: Vec<f64> = (0..n).map(|i| i as f64 - k as f64).collect();
-            (a[k], a[k + 1]) = if r.coin() { (0.0, -0.0) } else { (-0.0, 0.0) };
+            let mut a: Vec<T> = (0..n).map(|i| T::of(i as f64 - k as f64)).collect();
+            let (plus, minus) = (T::of(0.0), T::of(-0.0));
+            (a[k], a[k + 1]) = if r.coin() { (plus, minus) } else { (minus, plus) };
             a
         }
         "huge" => {
-            let e = 1023 - r.range(0, 3);
-            rising(r, -pow2(e), &mut |r| r.unit() * pow2(e - 1))
+            let e = T::TOP - r.range(0, 3);
+            rising(r, T::of(-pow2(e)), &mut |r| T::of(r.unit() * pow2(e - 1)))
         }
         "extreme" => {
-            let low = r.pick(&[f64::NEG_INFINITY, -f64::MAX]);
-            let mut rest: Vec<f64> = (1..n)
-                .map(|_| r.pick(&[-f64::MAX, -f64::MAX / 2.0, -1.0, 0.0, 1.0, f64::MAX / 2.0, f64::MAX, f64::INFINITY]))
+            let low = r.pick(&[T::NEG_INFINITY, -T::MAX]);
+            let half = T::MAX / T::of(2.0);
+            let mut rest: Vec<T> = (1..n)
+                .map(|_| r.pick(&[-T::MAX, -half, T::of(-1.0), T::of(0.0), T::of(1.0), half, T::MAX, T::INFINITY]))
                 .collect();
-            rest.sort_by(f64::total_cmp);
+            rest.sort_by(T::total_cmp);
             if rest[0] <= low {
-                rest[0] = low.next_up();
+                rest[0] = low.up();
             }
             rest.insert(0, low);
             rest
         }
         "tiny" => {
             let first = subnormal(r);
-            rising(r, first, &mut |r| subnormal(r).abs())
+            rising(r, first, &mut |r| subnormal::<T>(r).abs())
         }
         "bits" => {
-            let mut a: Vec<f64> = (0..n)
+            let mut a: Vec<T> = (0..n)
                 .map(|_| {
-                    let x = f64::from_bits(r.next());
-                    if x.is_nan() { 1.0 } else { x }
+                    let x = T::from_bits(r.next());
+                    if x.is_nan() { T::one() } else { x }
                 })
                 .collect();
-            a.sort_by(f64::total_cmp);
+            a.sort_by(T::total_cmp);
             if !(a[1] > a[0]) {
-                a[0] = f64::NEG_INFINITY;
-                a[1] = a[1].max(-f64::MAX);
+                a[0] = T::NEG_INFINITY;
+                a[1] = a[1].max(-T::MAX);
             }
             a
         }
@@ -253,14 +265,14 @@ pub fn rectilinear_axis(r: &mut Rng, flavour: &str, n: usize) -> Axis {
     Axis::Rectilinear(a)
 }
 
-pub fn axis(r: &mut Rng, rectilinear: bool, flavour: &str, n: usize) -> Axis {
+pub fn axis<T: Width>(r: &mut Rng, rectilinear: bool, flavour: &str, n: usize) -> Axis<T> {
     if rectilinear { rectilinear_axis(r, flavour, n) } else { regular_axis(r, flavour, n) }
 }
 
 // ---- queries ----
 
 /// A coordinate made to fall into the class wanted (numbers as in `oracle_place`). On odd axes rounding may move it.
-pub fn of_class(r: &mut Rng, a: &Axis, class: usize) -> f64 {
+pub fn of_class<T: Width>(r: &mut Rng, a: &Axis<T>, class: usize) -> T {
     let n = a.n();
     match a {
         Axis::Regular { start, step, .. } => {
@@ -272,112 +284,120 @@ pub fn of_class(r: &mut Rng, a: &Axis, class: usize) -> f64 {
                 3 => n as f64 - 2.0 + u,
                 _ => n as f64 - 1.0 + 4.0 * u,
             };
-            *start + *step * q
+            *start + *step * T::of(q)
         }
         Axis::Rectilinear(a) => {
-            let far = r.unit() * (a[n - 1] - a[0]).min(f64::MAX);
+            let far = T::of(r.unit()) * (a[n - 1] - a[0]).min(T::MAX);
             let i = match class {
                 0 => 1 + r.below(n - 3),
                 1 => 0,
                 2 => return a[0] - far,
                 3 => n - 2,
-                _ => return (a[n - 1] + far).max(a[n - 1].next_up()),
+                _ => return (a[n - 1] + far).max(a[n - 1].up()),
             };
-            a[i] + (1.0 - r.unit()) * (a[i + 1] - a[i])
+            a[i] + T::of(1.0 - r.unit()) * (a[i + 1] - a[i])
         }
     }
 }
 
-pub fn any_class(r: &mut Rng, a: &Axis) -> f64 {
+pub fn any_class<T: Width>(r: &mut Rng, a: &Axis<T>) -> T {
     let class = r.below(5);
     of_class(r, a, class)
 }
 
 /// A node, or the float just above or below it.
-pub fn near_node(r: &mut Rng, a: &Axis) -> f64 {
+pub fn near_node<T: Width>(r: &mut Rng, a: &Axis<T>) -> T {
     let x = a.node(r.below(a.n()));
     match r.below(5) {
-        0 => x.next_up(),
-        1 => x.next_down(),
+        0 => x.up(),
+        1 => x.down(),
         _ => x,
     }
 }
 
 /// Zeros, infinities, NaN, extremes and subnormals.
-pub fn special(r: &mut Rng) -> f64 {
+pub fn special<T: Width>(r: &mut Rng) -> T {
     match r.below(12) {
-        0 => 0.0,
-        1 => -0.0,
-        2 => f64::INFINITY,
-        3 => f64::NEG_INFINITY,
-        4 => f64::NAN,
-        5 => f64::MAX,
-        6 => -f64::MAX,
-        7 => f64::MIN_POSITIVE,
-        8 => -f64::MIN_POSITIVE,
-        9 => 0f64.next_up(),
-        10 => 0f64.next_down(),
+        0 => T::of(0.0),
+        1 => T::of(-0.0),
+        2 => T::INFINITY,
+        3 => T::NEG_INFINITY,
+        4 => T::NAN,
+        5 => T::MAX,
+        6 => -T::MAX,
+        7 => T::MIN_POSITIVE,
+        8 => -T::MIN_POSITIVE,
+        9 => least(),
+        10 => -least::<T>(),
         _ => subnormal(r),
     }
 }
 
-/// A quotient at or beside one of the marks, on an axis of the flavour "quotient".
-pub fn at_mark(r: &mut Rng, a: &Axis) -> f64 {
+/// A quotient at or beside one of the marks, on an axis of the flavour "quotient". The marks are 2^63; 2^53 or 2^24, above
+/// which the odd numbers are missing; and 2^52 or 2^23, from which on all numbers are whole.
+pub fn at_mark<T: Width>(r: &mut Rng, a: &Axis<T>) -> T {
     let Axis::Regular { step, n, .. } = a else { unreachable!() };
-    let top = pow2(63);
-    let whole = pow2(53);
-    let q = match r.below(19) {
+    let digits = T::DIGITS as i64;
+    let [top, even, whole] = [63, digits, digits - 1].map(|e| T::of(pow2(e)));
+    // The last four in f32 alone, so that the draws of f64 stay.
+    let many = if T::DIGITS == 53 { 19 } else { 23 };
+    let q = match r.below(many) {
         0 => top,
-        1 | 2 => top.next_down(),
-        3 => top.next_up(),
+        1 | 2 => top.down(),
+        3 => top.up(),
         4 => -top,
-        5 | 6 => (-top).next_up(),
-        7 => (-top).next_down(),
-        8 => whole,
-        9 => whole.next_down(),
-        10 => whole.next_up(),
-        11 => -whole,
-        12 => (-whole).next_up(),
-        13 => (-whole).next_down(),
-        14 => (*n as f64 - 1.0).next_down(),
-        15 => -0f64.next_up(),
-        16 => r.pick(&[pow2(62), -pow2(62), pow2(64), -pow2(64), 1e30, -1e30]),
-        17 => pow2(52) - 0.5,
-        _ => -pow2(52) + 0.5,
+        5 | 6 => (-top).up(),
+        7 => (-top).down(),
+        8 => even,
+        9 => even.down(),
+        10 => even.up(),
+        11 => -even,
+        12 => (-even).up(),
+        13 => (-even).down(),
+        14 => T::of(*n as f64 - 1.0).down(),
+        15 => -least::<T>(),
+        16 => T::of(r.pick(&[pow2(62), -pow2(62), pow2(64), -pow2(64), 1e30, -1e30])),
+        17 => whole.down(),
+        18 => (-whole).up(),
+        19 => whole,
+        20 => whole.up(),
+        21 => -whole,
+        _ => (-whole).down(),
     };
     q * *step
 }
 
 // ---- values ----
 
-pub fn values(r: &mut Rng, flavour: &str, len: usize) -> Vec<f64> {
+pub fn values<T: Width>(r: &mut Rng, flavour: &str, len: usize) -> Vec<T> {
+    let part = |n: f64| T::MAX / T::of(n);
     (0..len)
         .map(|_| match flavour {
-            "whole" => r.range(-1000, 1000) as f64,
-            "short" => r.range(-64, 64) as f64 / 8.0,
-            "unit" => r.unit() * 2.0 - 1.0,
-            "log" => (r.unit() * 2.0 - 1.0) * pow2(r.range(-40, 40)),
-            "big" => r.pick(&[f64::MAX, -f64::MAX, f64::MAX / 4.0, -f64::MAX / 2.0, 1.0]),
+            "whole" => T::of(r.range(-1000, 1000) as f64),
+            "short" => T::of(r.range(-64, 64) as f64 / 8.0),
+            "unit" => T::of(r.unit() * 2.0 - 1.0),
+            "log" => T::of((r.unit() * 2.0 - 1.0) * pow2(r.range(-40, 40))),
+            "big" => r.pick(&[T::MAX, -T::MAX, part(4.0), -part(2.0), T::of(1.0)]),
             "small" => {
                 let some = subnormal(r);
-                r.pick(&[0f64.next_up(), 0f64.next_down(), f64::MIN_POSITIVE, -0.0, 0.0, some])
+                r.pick(&[least(), -least::<T>(), T::MIN_POSITIVE, T::of(-0.0), T::of(0.0), some])
             }
-            "zeros" => r.pick(&[0.0, -0.0]),
+            "zeros" => T::of(r.pick(&[0.0, -0.0])),
             "odd" => {
                 if r.one_in(12) {
-                    r.pick(&[f64::NAN, f64::INFINITY, f64::NEG_INFINITY, -0.0, f64::MAX])
+                    r.pick(&[T::NAN, T::INFINITY, T::NEG_INFINITY, T::of(-0.0), T::MAX])
                 } else {
-                    r.range(-9, 9) as f64
+                    T::of(r.range(-9, 9) as f64)
                 }
             }
-            "nan" => f64::NAN,
-            "bits" => f64::from_bits(r.next()),
+            "nan" => T::NAN,
+            "bits" => T::from_bits(r.next()),
             _ => unreachable!(),
         })
         .collect()
 }
 
-pub fn any_values(r: &mut Rng, len: usize) -> Vec<f64> {
+pub fn any_values<T: Width>(r: &mut Rng, len: usize) -> Vec<T> {
     let flavour = match r.below(24) {
         0..=7 => "whole",
         8..=10 => "short",
@@ -395,8 +415,8 @@ pub fn any_values(r: &mut Rng, len: usize) -> Vec<f64> {
 // ---- grids that `new` refuses with 3, 4 or 5 ----
 
 /// One or more faults, at random. The caller asks the Rust what it makes of them.
-pub fn faulty(r: &mut Rng, rectilinear: bool, many: usize, count: &mut dyn FnMut(&mut Rng) -> usize) -> Grid {
-    let mut axes: Vec<Axis> = (0..many)
+pub fn faulty<T: Width>(r: &mut Rng, rectilinear: bool, many: usize, count: &mut dyn FnMut(&mut Rng) -> usize) -> Grid<T> {
+    let mut axes: Vec<Axis<T>> = (0..many)
         .map(|_| {
             let n = count(r);
             axis(r, rectilinear, "whole", n)
@@ -411,11 +431,11 @@ pub fn faulty(r: &mut Rng, rectilinear: bool, many: usize, count: &mut dyn FnMut
             (1 | 2, Axis::Regular { n, .. }) => *n = r.pick(&[0, 1, 2, 3, 3]),
             (2, Axis::Rectilinear(a)) => a.truncate(r.pick(&[0, 1, 2, 3, 3])),
             (_, Axis::Regular { step, .. }) => {
-                *step = r.pick(&[0.0, -0.0, -1.0, f64::NAN, f64::NEG_INFINITY, -f64::MIN_POSITIVE])
+                *step = r.pick(&[T::of(0.0), T::of(-0.0), T::of(-1.0), T::NAN, T::NEG_INFINITY, -T::MIN_POSITIVE])
             }
-            (3, Axis::Rectilinear(a)) => a.iter_mut().take(2).for_each(|x| *x = 0.0),
-            (4, Axis::Rectilinear(a)) => a.iter_mut().take(1 + r.below(2)).for_each(|x| *x = f64::NAN),
-            (_, Axis::Rectilinear(a)) => a.iter_mut().take(1).for_each(|x| *x = 1e9),
+            (3, Axis::Rectilinear(a)) => a.iter_mut().take(2).for_each(|x| *x = T::zero()),
+            (4, Axis::Rectilinear(a)) => a.iter_mut().take(1 + r.below(2)).for_each(|x| *x = T::NAN),
+            (_, Axis::Rectilinear(a)) => a.iter_mut().take(1).for_each(|x| *x = T::of(1e9)),
         }
     }
     // A wrong joined length by itself, and on no empty axis: else the counts that the Rust sees could fit the values.
@@ -430,7 +450,7 @@ pub fn faulty(r: &mut Rng, rectilinear: bool, many: usize, count: &mut dyn FnMut
     let mut g = Grid::new(&axes, values, r.coin());
     if rectilinear {
         let len = (g.joined.len() as i64 + more_joined) as usize;
-        g.joined.resize(len, 99.0);
+        g.joined.resize(len, T::of(99.0));
     }
     g
 }

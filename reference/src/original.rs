@@ -1,24 +1,25 @@
 //! The original Rust behind one face for all axis counts. Used by `corpus` and `compare`.
 use crate::cases::Grid;
+use crate::width::Width;
 use interpn::multicubic::{MulticubicRectilinear, MulticubicRegular};
 
 pub type Message = &'static str;
 pub const UNPLACEABLE: Message = "Unrepresentable coordinate value";
 pub const MISMATCH: Message = "Dimension mismatch";
 
-pub trait Reader {
+pub trait Reader<T> {
     /// Origin and class on one axis; None where get_loc refuses.
-    fn place(&self, x: f64, axis: usize) -> Option<(usize, u8)>;
-    fn one(&self, x: &[f64]) -> Result<f64, Message>;
-    fn one_grad(&self, x: &[f64], gradient: &mut [f64]) -> Result<(), Message>;
-    fn batch(&self, columns: &[&[f64]], out: &mut [f64]) -> Result<(), Message>;
-    fn batch_grad(&self, columns: &[&[f64]], out: &mut [&mut [f64]]) -> Result<(), Message>;
+    fn place(&self, x: T, axis: usize) -> Option<(usize, u8)>;
+    fn one(&self, x: &[T]) -> Result<T, Message>;
+    fn one_grad(&self, x: &[T], gradient: &mut [T]) -> Result<(), Message>;
+    fn batch(&self, columns: &[&[T]], out: &mut [T]) -> Result<(), Message>;
+    fn batch_grad(&self, columns: &[&[T]], out: &mut [&mut [T]]) -> Result<(), Message>;
 }
 
 macro_rules! reader {
     ($kind:ident) => {
-        impl<const N: usize> Reader for $kind<'_, f64, N> {
-            fn place(&self, x: f64, axis: usize) -> Option<(usize, u8)> {
+        impl<T: Width, const N: usize> Reader<T> for $kind<'_, T, N> {
+            fn place(&self, x: T, axis: usize) -> Option<(usize, u8)> {
                 match self.oracle_place(x, axis) {
                     Ok(place) => Some(place),
                     Err(message) => {
@@ -27,17 +28,17 @@ macro_rules! reader {
                     }
                 }
             }
-            fn one(&self, x: &[f64]) -> Result<f64, Message> {
+            fn one(&self, x: &[T]) -> Result<T, Message> {
                 self.interp_one(x.try_into().unwrap())
             }
-            fn one_grad(&self, x: &[f64], gradient: &mut [f64]) -> Result<(), Message> {
+            fn one_grad(&self, x: &[T], gradient: &mut [T]) -> Result<(), Message> {
                 gradient.copy_from_slice(&self.interp_one_grad(x.try_into().unwrap())?);
                 Ok(())
             }
-            fn batch(&self, columns: &[&[f64]], out: &mut [f64]) -> Result<(), Message> {
+            fn batch(&self, columns: &[&[T]], out: &mut [T]) -> Result<(), Message> {
                 self.interp(columns.try_into().unwrap(), out)
             }
-            fn batch_grad(&self, columns: &[&[f64]], out: &mut [&mut [f64]]) -> Result<(), Message> {
+            fn batch_grad(&self, columns: &[&[T]], out: &mut [&mut [T]]) -> Result<(), Message> {
                 self.interp_grad(columns.try_into().unwrap(), out.try_into().unwrap())
             }
         }
@@ -47,36 +48,36 @@ reader!(MulticubicRegular);
 reader!(MulticubicRectilinear);
 
 /// Makes the grid with `new` and hands it on, or the message with which `new` refuses it.
-pub fn read<R>(g: &Grid, then: impl FnOnce(Result<&dyn Reader, Message>) -> R) -> R {
-    fn sized<const N: usize, R>(g: &Grid, then: impl FnOnce(Result<&dyn Reader, Message>) -> R) -> R {
+pub fn read<T: Width, R>(g: &Grid<T>, then: impl FnOnce(Result<&dyn Reader<T>, Message>) -> R) -> R {
+    fn sized<const N: usize, T: Width, R>(g: &Grid<T>, then: impl FnOnce(Result<&dyn Reader<T>, Message>) -> R) -> R {
         if g.rectilinear {
             let parts = g.cut();
-            match MulticubicRectilinear::<f64, N>::new(parts[..].try_into().unwrap(), &g.values, g.straight) {
+            match MulticubicRectilinear::<T, N>::new(parts[..].try_into().unwrap(), &g.values, g.straight) {
                 Ok(reader) => then(Ok(&reader)),
                 Err(message) => then(Err(message)),
             }
         } else {
             let dims: [usize; N] = g.counts[..].try_into().unwrap();
-            let starts: [f64; N] = g.starts[..].try_into().unwrap();
-            let steps: [f64; N] = g.steps[..].try_into().unwrap();
-            match MulticubicRegular::<f64, N>::new(dims, starts, steps, &g.values, g.straight) {
+            let starts: [T; N] = g.starts[..].try_into().unwrap();
+            let steps: [T; N] = g.steps[..].try_into().unwrap();
+            match MulticubicRegular::<T, N>::new(dims, starts, steps, &g.values, g.straight) {
                 Ok(reader) => then(Ok(&reader)),
                 Err(message) => then(Err(message)),
             }
         }
     }
     match g.counts.len() {
-        1 => sized::<1, R>(g, then),
-        2 => sized::<2, R>(g, then),
-        3 => sized::<3, R>(g, then),
-        4 => sized::<4, R>(g, then),
+        1 => sized::<1, T, R>(g, then),
+        2 => sized::<2, T, R>(g, then),
+        3 => sized::<3, T, R>(g, then),
+        4 => sized::<4, T, R>(g, then),
         _ => unreachable!(),
     }
 }
 
 /// The number for the message of `new`, with the axis the number names (0 for 3): the Rust gives the message only,
 /// and the axis is the lowest that has the fault.
-pub fn refusal(g: &Grid, message: Message) -> (u8, usize) {
+pub fn refusal<T: Width>(g: &Grid<T>, message: Message) -> (u8, usize) {
     match message {
         MISMATCH => (3, 0),
         "All grids must have at least four entries" | "All grids must have at least 4 entries" => {
@@ -86,20 +87,10 @@ pub fn refusal(g: &Grid, message: Message) -> (u8, usize) {
             let axis = if g.rectilinear {
                 g.cut().iter().position(|a| !(a[1] > a[0]))
             } else {
-                g.steps.iter().position(|&s| !(s > 0.0))
+                g.steps.iter().position(|&s| !(s > T::zero()))
             };
             (5, axis.unwrap())
         }
         _ => unreachable!("{message}"),
     }
-}
-
-/// Buffers are filled with signalling NaNs of distinct payloads beforehand. No sum is ever one, so an entry that
-/// was not written shows, even where the answer is a NaN.
-pub fn untouched(i: usize) -> f64 {
-    f64::from_bits(0x7ff4_0000_0000_0000 | (i as u64 + 1))
-}
-
-pub fn same(a: f64, b: f64) -> bool {
-    a.to_bits() == b.to_bits() || (a.is_nan() && b.is_nan())
 }

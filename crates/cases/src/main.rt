@@ -202,6 +202,24 @@ fn unplaceable(s: Score, z: &[f64]) -> Score {
     told(s, t, b"regular, 8: axis 1 of a single query")
 }
 
+// The greatest number below 2^63.
+fn below_63() -> f64 {
+    9223372036854774784.0
+}
+
+// The bounds of refusal 8: 2^63 is refused; the number below it is the last that is placed, and -2^63 is still placed.
+fn bounds(s: Score) -> Score {
+    let g = regular(1, 4, 0, 0, 1.0, 1.0);
+    let x = [0.0, 1.0, 2.0, 3.0];
+    let zero = [0.0; 4];
+    let far = 9223372036854775808.0;
+    let low = 0xC3E0_0000_0000_0000;
+    let one = 0x3FF0_0000_0000_0000;
+    let s = not_placed(s, g, &x, &x, far, b"regular, 8: 2^63");
+    let s = answered(s, g, &x, &zero, below_63(), 4, 0, 0, b"regular, below 2^63");
+    answered(s, g, &x, &x, -far, 2, low, one, b"regular, -2^63")
+}
+
 // Refusal 8 in the middle of a batch: the earlier query's entries hold its answers, all others their contents.
 fn stopped(s: Score, z: &[f64]) -> Score {
     let vals = [
@@ -282,6 +300,7 @@ fn all(s: Score, z: &[f64]) -> Score {
     let s = regular_batches(s, z);
     let s = rectilinear_batches(s, z);
     let s = unplaceable(s, z);
+    let s = bounds(s);
     let s = stopped(s, z);
     kept_grids(s)
 }

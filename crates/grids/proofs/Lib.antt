@@ -4,8 +4,10 @@ pub mod Fields
 pub mod Kept
 pub mod Locals
 pub mod Made
+pub mod Plain
 pub mod Query
 pub mod Rectilinear
 pub mod Regular
+pub mod Results
 pub mod Together
 pub mod Walks

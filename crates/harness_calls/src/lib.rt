@@ -137,13 +137,13 @@ pub fn same_float(t: Tally, call: u64, item: u64, place: u64, expected: u64, fou
     )
 }
 
-fn same_place(t: Tally, axis: u64, expected: u64, place: Place) -> Tally {
+pub fn same_place(t: Tally, axis: u64, expected: u64, place: Place) -> Tally {
     let class = place.class;
     let t = same(t, GET_LOC, ORIGIN, axis, expected / 8, place.origin as u64);
     same(t, GET_LOC, CLASS, axis, expected % 8, class_of(class))
 }
 
-fn same_places(t: Tally, e: Expected, answer: PlaceAnswer) -> Tally {
+pub fn same_places(t: Tally, e: Expected, answer: PlaceAnswer) -> Tally {
     let expected = e.places;
     let outcome = answer.outcome;
     let places = answer.places;

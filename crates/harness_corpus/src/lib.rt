@@ -48,7 +48,7 @@ pub fn plus(a: usize, b: usize) -> usize {
 }
 
 // A length, and 0 where it is over the limit.
-fn capped(x: u64, most: u64) -> usize {
+pub fn capped(x: u64, most: u64) -> usize {
     if x <= most { x as usize } else { 0 }
 }
 
@@ -71,7 +71,7 @@ pub fn columns(n: usize, c: usize) -> usize {
 }
 
 // A fault unless `count` words are left from `at` on.
-fn need(state: u64, words: &[u64], at: usize, count: usize) -> u64 {
+pub fn need(state: u64, words: &[u64], at: usize, count: usize) -> u64 {
     if state != 0 {
         return state;
     }
@@ -84,7 +84,7 @@ fn need(state: u64, words: &[u64], at: usize, count: usize) -> u64 {
 }
 
 // A fault unless x is from least to most.
-fn limit(state: u64, x: u64, least: u64, most: u64) -> u64 {
+pub fn limit(state: u64, x: u64, least: u64, most: u64) -> u64 {
     if state != 0 {
         return state;
     }
@@ -109,7 +109,7 @@ pub fn part<'a>(floats: &'a [f64], at: usize, count: usize) -> &'a [f64] {
     &floats[at..end]
 }
 
-fn size(words: &[u64], at: usize, i: usize) -> usize {
+pub fn size(words: &[u64], at: usize, i: usize) -> usize {
     word(words, plus(at, i)) as usize
 }
 
@@ -123,7 +123,7 @@ fn axis_at(floats: &[f64], at: usize, i: usize, count: usize) -> Axis {
 }
 
 // The four counts of a regular or a rectilinear grid.
-fn counts_at(words: &[u64], at: usize) -> [usize; 4] {
+pub fn counts_at(words: &[u64], at: usize) -> [usize; 4] {
     [
         size(words, at, 0),
         size(words, at, 1),
@@ -142,7 +142,7 @@ fn axes_at(floats: &[f64], at: usize, counts: [usize; 4]) -> [Axis; 4] {
     ]
 }
 
-fn mode_of(x: u64) -> EdgeMode {
+pub fn mode_of(x: u64) -> EdgeMode {
     if x == 1 {
         EdgeMode::Straight
     } else {
@@ -151,7 +151,7 @@ fn mode_of(x: u64) -> EdgeMode {
 }
 
 // A refused grid has no queries.
-fn most_queries(number: u64) -> u64 {
+pub fn most_queries(number: u64) -> u64 {
     if number == 0 { 64 } else { 0 }
 }
 

@@ -24,7 +24,7 @@ use harness_words::clear;
 use harness_words::word;
 
 // What the batches give, once query i is known.
-fn stop_at(w: Walk, i: u64, e: Expected) -> Walk {
+pub fn stop_at(w: Walk, i: u64, e: Expected) -> Walk {
     let mut r = w;
     if w.number == 0 {
         if e.number != 0 {
@@ -36,7 +36,7 @@ fn stop_at(w: Walk, i: u64, e: Expected) -> Walk {
     r
 }
 
-fn fault(w: Walk, state: u64) -> Walk {
+pub fn fault(w: Walk, state: u64) -> Walk {
     let mut t = w.tally;
     t.state = state;
     with_tally(w, t)
@@ -76,7 +76,7 @@ fn run_query(
     r
 }
 
-fn at_most_64(x: usize) -> usize
+pub fn at_most_64(x: usize) -> usize
     ensures { λ r. ⌜ r ≤ 64 ⌝ }
 {
     if x < 64 { x } else { 64 }
@@ -167,7 +167,7 @@ fn run_group(words: &[u64], floats: &[f64], w: Walk) -> Walk {
     run_grid(words, g, axes, vals, queries, t)
 }
 
-fn next_group(w: Walk) -> Walk {
+pub fn next_group(w: Walk) -> Walk {
     let mut t = w.tally;
     if t.state == 0 {
         t.groups = std::num::wrapping_add_u64(t.groups, 1);
@@ -191,7 +191,7 @@ pub fn run(words: &[u64], floats: &[f64]) -> Tally {
     finish(words.len(), w)
 }
 
-fn start() -> Walk {
+pub fn start() -> Walk {
     Walk {
         tally: clear(),
         at: 1,
@@ -201,7 +201,7 @@ fn start() -> Walk {
     }
 }
 
-fn finish(end: usize, w: Walk) -> Tally {
+pub fn finish(end: usize, w: Walk) -> Tally {
     let mut t = w.tally;
     if t.state == 0 {
         if end < w.at {

@@ -9,7 +9,8 @@ use multicubic::Axis;
 use multicubic::EdgeMode;
 use multicubic::Outcome;
 
-fn count_at(counts: &[usize], i: usize) -> usize
+// Count i; one that is missing is 1.
+pub fn count_at(counts: &[usize], i: usize) -> usize
     ensures { λ r. ⌜ r ≡ getD (now (counts .entry)) i 1 ⌝ }
 {
     if i < counts.len() { counts[i] } else { 1 }

@@ -87,7 +87,7 @@ pub fn tell_value(answer: Answer, refusal: &mut [usize], value: &mut [f64]) -> u
 }
 
 // How many of four entries are written.
-fn entries(outcome: Outcome, n: usize) -> usize
+pub fn entries(outcome: Outcome, n: usize) -> usize
     ensures { λ r. ⌜ r ≡ min (entriesOf outcome n) 4 ⌝ }
 {
     match outcome {

@@ -1,7 +1,7 @@
-//! Times libcapi.a against the original Rust on one core.
-//!   bench [REPEATS [QUERIES [OUTSIDE]]]     all cases: 21 repeats, 100,000 queries, 0 percent outside the table
-//!   bench list                              the names of the cases
-//!   bench once SIDE CASE [TIMES [QUERIES]]  one side (rust or ours) of one case, 10 times 10,000 queries, for callgrind
+//! Times libcapi.a against the original Rust on one core; with f32, libcapi_f32.a against the Rust at f32.
+//!   bench [f32] [REPEATS [QUERIES [OUTSIDE]]]     all cases: 21 repeats, 100,000 queries, 0 percent outside the table
+//!   bench list                                    the names of the cases
+//!   bench [f32] once SIDE CASE [TIMES [QUERIES]]  one side (rust or ours) of one case, 10 times 10,000 queries, for callgrind
 //! Both sides run in one process, by turns, over the same queries. Each answer is compared before anything is timed.
 //! At the end the ratios that are limited, three axes of 20: values at most 2.0 times the Rust's time, gradients 2.5. Exit code 1 where one is over.
 #[allow(dead_code)]
@@ -13,11 +13,16 @@ mod original;
 #[allow(dead_code)]
 #[path = "../ours.rs"]
 mod ours;
+#[allow(dead_code)]
+#[path = "../width.rs"]
+mod width;
 use cases::{Axis, Grid, Rng, product};
 use interpn::multicubic::{MulticubicRectilinear, MulticubicRegular};
-use original::{read, same};
+use original::read;
+use ours::Calls;
 use std::hint::black_box;
 use std::time::Instant;
+use width::narrow;
 
 #[derive(Clone, Copy, PartialEq)]
 enum Call {
@@ -29,15 +34,15 @@ enum Call {
     NewAndOne,
 }
 
-struct Case {
+struct Case<T> {
     name: String,
-    grid: Grid,
+    grid: Grid<T>,
     call: Call,
-    columns: Vec<Vec<f64>>,
-    joined: Vec<f64>,
+    columns: Vec<Vec<T>>,
+    joined: Vec<T>,
 }
 
-fn cases(queries: usize, outside: usize) -> Vec<Case> {
+fn cases<T: Calls>(queries: usize, outside: usize) -> Vec<Case<T>> {
     let shapes: [(&[usize], &[Call]); 5] = [
         (&[20, 20, 20], &[Call::Values, Call::Gradients]),
         (&[7, 9, 12], &[Call::Values, Call::Gradients, Call::One, Call::NewAndOne]),
@@ -51,18 +56,18 @@ fn cases(queries: usize, outside: usize) -> Vec<Case> {
     for (counts, calls) in shapes {
         for rectilinear in [false, true] {
             let mut r = Rng(1);
-            let axes: Vec<Axis> = (0..counts.len())
+            let axes: Vec<Axis<T>> = (0..counts.len())
                 .map(|d| {
                     let (start, step, n) = (starts[d], steps[d], counts[d]);
                     if !rectilinear {
-                        return Axis::Regular { start, step, n };
+                        return Axis::Regular { start: T::of(start), step: T::of(step), n };
                     }
                     // Uneven gaps over about the same span.
-                    Axis::Rectilinear((0..n).map(|i| start + step * (i as f64 + 0.6 * (r.unit() - 0.5))).collect())
+                    Axis::Rectilinear((0..n).map(|i| T::of(start + step * (i as f64 + 0.6 * (r.unit() - 0.5)))).collect())
                 })
                 .collect();
-            let values: Vec<f64> = (0..product(&axes)).map(|_| r.unit() * 200.0 - 100.0).collect();
-            let columns: Vec<Vec<f64>> = axes
+            let values: Vec<T> = (0..product(&axes)).map(|_| T::of(r.unit() * 200.0 - 100.0)).collect();
+            let columns: Vec<Vec<T>> = axes
                 .iter()
                 .map(|a| {
                     let (low, high) = (a.node(0), a.node(a.n() - 1));
@@ -70,11 +75,11 @@ fn cases(queries: usize, outside: usize) -> Vec<Case> {
                         .map(|_| {
                             let u = r.unit();
                             if r.below(100) >= outside {
-                                low + (high - low) * u
+                                low + (high - low) * T::of(u)
                             } else if u < 0.5 {
-                                low - (high - low) * 0.2 * u
+                                low - (high - low) * T::of(0.2) * T::of(u)
                             } else {
-                                high + (high - low) * 0.2 * (u - 0.5)
+                                high + (high - low) * T::of(0.2) * T::of(u - 0.5)
                             }
                         })
                         .collect()
@@ -102,22 +107,22 @@ fn cases(queries: usize, outside: usize) -> Vec<Case> {
     list
 }
 
-impl Case {
+impl<T: Calls> Case<T> {
     fn queries(&self) -> usize {
         self.columns[0].len()
     }
-    fn buffer(&self) -> Vec<f64> {
+    fn buffer(&self) -> Vec<T> {
         let wide = if self.call == Call::Gradients { self.columns.len() } else { 1 };
-        vec![0.0; wide * self.queries()]
+        vec![T::zero(); wide * self.queries()]
     }
 
-    fn rust(&self, out: &mut [f64]) {
+    fn rust(&self, out: &mut [T]) {
         let g = black_box(&self.grid);
-        let columns: Vec<&[f64]> = self.columns.iter().map(|x| &x[..]).collect();
+        let columns: Vec<&[T]> = self.columns.iter().map(|x| &x[..]).collect();
         match self.call {
             Call::Values => read(g, |reader| reader.unwrap().batch(black_box(&columns), out).unwrap()),
             Call::Gradients => {
-                let mut parts: Vec<&mut [f64]> = out.chunks_mut(self.queries()).collect();
+                let mut parts: Vec<&mut [T]> = out.chunks_mut(self.queries()).collect();
                 read(g, |reader| reader.unwrap().batch_grad(black_box(&columns), &mut parts).unwrap())
             }
             // Three axes, called directly: here a call through a table would show.
@@ -126,8 +131,8 @@ impl Case {
                 let query = |i: usize| [columns[0][i], columns[1][i], columns[2][i]];
                 if g.rectilinear {
                     let parts = g.cut();
-                    let grids: &[&[f64]; 3] = parts[..].try_into().unwrap();
-                    let new = || MulticubicRectilinear::<f64, 3>::new(black_box(grids), &g.values, g.straight).unwrap();
+                    let grids: &[&[T]; 3] = parts[..].try_into().unwrap();
+                    let new = || MulticubicRectilinear::<T, 3>::new(black_box(grids), &g.values, g.straight).unwrap();
                     let kept = new();
                     for (i, y) in out.iter_mut().enumerate() {
                         let x = black_box(query(i));
@@ -135,9 +140,9 @@ impl Case {
                     }
                 } else {
                     let dims: [usize; 3] = g.counts[..].try_into().unwrap();
-                    let starts: [f64; 3] = g.starts[..].try_into().unwrap();
-                    let steps: [f64; 3] = g.steps[..].try_into().unwrap();
-                    let new = || MulticubicRegular::<f64, 3>::new(black_box(dims), starts, steps, &g.values, g.straight).unwrap();
+                    let starts: [T; 3] = g.starts[..].try_into().unwrap();
+                    let steps: [T; 3] = g.steps[..].try_into().unwrap();
+                    let new = || MulticubicRegular::<T, 3>::new(black_box(dims), starts, steps, &g.values, g.straight).unwrap();
                     let kept = new();
                     for (i, y) in out.iter_mut().enumerate() {
                         let x = black_box(query(i));
@@ -148,26 +153,26 @@ impl Case {
         }
     }
 
-    fn ours(&self, out: &mut [f64]) {
+    fn ours(&self, out: &mut [T]) {
         let g = black_box(&self.grid);
         let mut refusal = [0; 2];
         match self.call {
-            Call::Values => assert_eq!(ours::interp(g, &self.joined, &mut refusal, out), 0),
-            Call::Gradients => assert_eq!(ours::interp_grad(g, &self.joined, &mut refusal, out), 0),
+            Call::Values => assert_eq!(T::interp(g, &self.joined, &mut refusal, out), 0),
+            Call::Gradients => assert_eq!(T::interp_grad(g, &self.joined, &mut refusal, out), 0),
             Call::One | Call::NewAndOne => {
                 for (i, y) in out.iter_mut().enumerate() {
                     let x = black_box([self.columns[0][i], self.columns[1][i], self.columns[2][i]]);
-                    assert_eq!(ours::interp_one(g, &x, &mut refusal, std::slice::from_mut(y)), 0);
+                    assert_eq!(T::interp_one(g, &x, &mut refusal, std::slice::from_mut(y)), 0);
                 }
             }
         }
     }
 }
 
-fn once(args: &[String]) {
+fn once<T: Calls>(args: &[String]) {
     let number = |i: usize, default: usize| args.get(i).map_or(default, |a| a.parse().expect("a whole number"));
     let (times, queries) = (number(2, 10), number(3, 10_000));
-    let list = cases(queries, 0);
+    let list = cases::<T>(queries, 0);
     let case = list.iter().find(|c| args.get(1) == Some(&c.name)).expect("a case of `bench list`");
     let mut out = case.buffer();
     for _ in 0..times {
@@ -177,21 +182,21 @@ fn once(args: &[String]) {
             _ => panic!("the side is rust or ours"),
         }
     }
-    println!("sum {:e}", out.iter().sum::<f64>());
+    println!("sum {:e}", out.iter().fold(T::zero(), |sum, &x| sum + x));
 }
 
-fn all(args: &[String]) {
+fn all<T: Calls>(args: &[String]) {
     let number = |i: usize, default: usize| args.get(i).map_or(default, |a| a.parse().expect("a whole number"));
     let (repeats, queries, outside) = (number(0, 21), number(1, 100_000), number(2, 0));
-    println!("{repeats} repeats, {queries} queries, {outside} percent of the coordinates outside; ns per query");
+    println!("f{}, {repeats} repeats, {queries} queries, {outside} percent of the coordinates outside; ns per query", T::SIZE);
     println!("{:37} {:>9} {:>9} {:>9} {:>9} {:>8} {:>8}", "", "Rust", "", "ours", "", "ours/Rust", "");
     println!("{:37} {:>9} {:>9} {:>9} {:>9} {:>8} {:>8}", "case", "median", "least", "median", "least", "median", "least");
     let mut limited = vec![];
-    for case in cases(queries, outside) {
+    for case in cases::<T>(queries, outside) {
         let (mut a, mut b) = (case.buffer(), case.buffer());
         case.rust(&mut a);
         case.ours(&mut b);
-        if let Some(i) = (0..a.len()).find(|&i| !same(a[i], b[i])) {
+        if let Some(i) = (0..a.len()).find(|&i| !a[i].same(b[i])) {
             println!("{}: entry {i} differs: ours {:e}, the Rust {:e}", case.name, b[i], a[i]);
             std::process::exit(1);
         }
@@ -233,11 +238,18 @@ fn all(args: &[String]) {
     }
 }
 
+fn run<T: Calls>(args: &[String]) {
+    match args.first().map(|a| a.as_str()) {
+        Some("list") => cases::<T>(1, 0).iter().for_each(|c| println!("{}", c.name)),
+        Some("once") => once::<T>(&args[1..]),
+        _ => all::<T>(args),
+    }
+}
+
 fn main() {
     let args: Vec<String> = std::env::args().skip(1).collect();
-    match args.first().map(|a| a.as_str()) {
-        Some("list") => cases(1, 0).iter().for_each(|c| println!("{}", c.name)),
-        Some("once") => once(&args[1..]),
-        _ => all(&args),
+    match narrow(&args) {
+        (true, rest) => run::<f32>(rest),
+        (false, rest) => run::<f64>(rest),
     }
 }

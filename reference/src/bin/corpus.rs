@@ -1,5 +1,5 @@
 //! Makes the corpus: grids and queries, with what the original Rust answers. The same bytes for the same seed.
-//!   corpus SEED FILE        (from target/checked)
+//!   corpus [f32] SEED FILE        (from target/checked)
 //! The file is a sequence of 64-bit little-endian words. Word 0: the number of groups. Then each group:
 //!   kind       0 regular, 1 rectilinear
 //!   mode       0 cubic, 1 straight (linearize_extrapolation)
@@ -12,22 +12,38 @@
 //!   queries    n * Q words, joined columns (bits)
 //!   answers    for each query: 1, then n words origin * 8 + class, the value, n words the gradient (bits, any NaN as
 //!              7ff8000000000000); or, where it cannot be placed, 0 and the lowest axis on which get_loc refuses
+//! With f32 the same words, the bits of an f32 in the low half of its word, any NaN answer as 7fc00000.
 #[path = "../cases.rs"]
 mod cases;
 #[path = "../original.rs"]
 mod original;
+#[path = "../width.rs"]
+mod width;
 use cases::*;
 use original::*;
 use std::collections::BTreeMap;
+use std::num::FpCategory;
 use std::panic::catch_unwind;
+use width::*;
 
 const MOST_WORDS: usize = 131_072;
 const CLASSES: [&str; 5] = ["None", "InsideLow", "OutsideLow", "InsideHigh", "OutsideHigh"];
 const KINDS: [&str; 2] = ["regular", "rectilinear"];
 const MODES: [&str; 2] = ["cubic", "straight"];
 
-fn bits(x: f64) -> u64 {
-    if x.is_nan() { 0x7ff8_0000_0000_0000 } else { x.to_bits() }
+/// The bits of an answer; any NaN as the quiet one without payload.
+fn bits<T: Width>(x: T) -> u64 {
+    if x.is_nan() { T::INFINITY.bits() | 1 << (T::DIGITS - 2) } else { x.bits() }
+}
+
+/// A NaN with the upper digits of the word as its payload.
+fn with_payload<T: Width>(word: u64) -> T {
+    T::from_bits(T::INFINITY.bits() | word >> (65 - T::DIGITS) | 1)
+}
+
+/// `wide` in f64; `narrow` in f32, where `wide` would round to zero or to infinity.
+fn either<T: Width>(wide: f64, narrow: f64) -> T {
+    T::of(if T::DIGITS == 53 { wide } else { narrow })
 }
 
 struct Corpus {
@@ -45,7 +61,7 @@ impl Corpus {
         *self.tally.entry(what).or_default() += 1;
     }
 
-    fn head(&mut self, topic: &str, g: &Grid) {
+    fn head<T: Width>(&mut self, topic: &str, g: &Grid<T>) {
         let n = g.counts.len();
         assert!((1..=4).contains(&n) && g.values.len() <= 4096 && g.joined.len() <= 4096);
         self.groups += 1;
@@ -53,7 +69,7 @@ impl Corpus {
         self.count(format!("groups, {}", MODES[g.straight as usize]));
         self.count(format!("topic {topic}: groups"));
         let four = |xs: &[u64]| (0..4).map(|i| xs.get(i).copied().unwrap_or(0)).collect::<Vec<u64>>();
-        let raw = |xs: &[f64]| xs.iter().map(|x| x.to_bits()).collect::<Vec<u64>>();
+        let raw = |xs: &[T]| xs.iter().map(|x| x.bits()).collect::<Vec<u64>>();
         self.words.extend([g.rectilinear as u64, g.straight as u64, n as u64]);
         self.words.extend(four(&g.counts.iter().map(|&n| n as u64).collect::<Vec<u64>>()));
         if g.rectilinear {
@@ -68,7 +84,7 @@ impl Corpus {
     }
 
     /// A grid that `new` takes, and queries to it.
-    fn group(&mut self, topic: &str, axes: &[Axis], straight: bool, values: Vec<f64>, mut queries: Vec<Vec<f64>>) {
+    fn group<T: Width>(&mut self, topic: &str, axes: &[Axis<T>], straight: bool, values: Vec<T>, mut queries: Vec<Vec<T>>) {
         let before = queries.len();
         queries.retain(|x| !axes.iter().zip(x).any(|(a, &x)| a.apart(x)));
         self.left_out += before - queries.len();
@@ -78,13 +94,13 @@ impl Corpus {
         assert!(c <= 64);
         self.head(topic, &g);
         self.words.extend([0, 0, c as u64]);
-        let columns: Vec<Vec<f64>> = (0..n).map(|d| queries.iter().map(|x| x[d]).collect()).collect();
+        let columns: Vec<Vec<T>> = (0..n).map(|d| queries.iter().map(|x| x[d]).collect()).collect();
         for column in &columns {
-            self.words.extend(column.iter().map(|x| x.to_bits()));
+            self.words.extend(column.iter().map(|x| x.bits()));
         }
         read(&g, |reader| {
             let reader = reader.expect("a group's grid is taken");
-            let mut answers: Vec<Option<(f64, Vec<f64>)>> = vec![];
+            let mut answers: Vec<Option<(T, Vec<T>)>> = vec![];
             for x in &queries {
                 answers.push(self.answer(topic, &g, axes, reader, x));
             }
@@ -95,22 +111,22 @@ impl Corpus {
                 Ok(()) => assert_eq!(first, None),
                 Err(message) => assert!(first.is_some() && message == UNPLACEABLE),
             };
-            let columns: Vec<&[f64]> = columns.iter().map(|x| &x[..]).collect();
-            let mut out: Vec<f64> = (0..c).map(untouched).collect();
+            let columns: Vec<&[T]> = columns.iter().map(|x| &x[..]).collect();
+            let mut out: Vec<T> = (0..c).map(T::untouched).collect();
             expected(reader.batch(&columns, &mut out));
-            let mut grad: Vec<Vec<f64>> = (0..n).map(|d| (0..c).map(|i| untouched(d * c + i)).collect()).collect();
+            let mut grad: Vec<Vec<T>> = (0..n).map(|d| (0..c).map(|i| T::untouched(d * c + i)).collect()).collect();
             expected(reader.batch_grad(&columns, &mut grad.iter_mut().map(|x| &mut x[..]).collect::<Vec<_>>()));
             for i in 0..c {
                 if i < first.unwrap_or(c) {
                     let (value, gradient) = answers[i].as_ref().unwrap();
-                    assert!(same(out[i], *value) && out[i].to_bits() != untouched(i).to_bits());
+                    assert!(out[i].same(*value) && out[i].bits() != T::untouched(i).bits());
                     for d in 0..n {
-                        assert!(same(grad[d][i], gradient[d]) && grad[d][i].to_bits() != untouched(d * c + i).to_bits());
+                        assert!(grad[d][i].same(gradient[d]) && grad[d][i].bits() != T::untouched(d * c + i).bits());
                     }
                 } else {
-                    assert_eq!(out[i].to_bits(), untouched(i).to_bits());
+                    assert_eq!(out[i].bits(), T::untouched(i).bits());
                     for d in 0..n {
-                        assert_eq!(grad[d][i].to_bits(), untouched(d * c + i).to_bits());
+                        assert_eq!(grad[d][i].bits(), T::untouched(d * c + i).bits());
                     }
                 }
             }
@@ -123,17 +139,24 @@ impl Corpus {
     }
 
     /// One query's answer, written down and counted.
-    fn answer(&mut self, topic: &str, g: &Grid, axes: &[Axis], reader: &dyn Reader, x: &[f64]) -> Option<(f64, Vec<f64>)> {
+    fn answer<T: Width>(
+        &mut self,
+        topic: &str,
+        g: &Grid<T>,
+        axes: &[Axis<T>],
+        reader: &dyn Reader<T>,
+        x: &[T],
+    ) -> Option<(T, Vec<T>)> {
         let n = x.len();
         let kind = KINDS[g.rectilinear as usize];
         self.queries += 1;
         self.count(format!("queries, {kind}, axis count {n}"));
         self.count(format!("topic {topic}: queries"));
         for (what, is) in [
-            ("a NaN", (|x| x.is_nan()) as fn(&f64) -> bool),
+            ("a NaN", (|x| x.is_nan()) as fn(&T) -> bool),
             ("an infinity", |x| x.is_infinite()),
-            ("a subnormal number", |x| x.is_subnormal()),
-            ("-0", |x| x.to_bits() == 1 << 63),
+            ("a subnormal number", |x| x.classify() == FpCategory::Subnormal),
+            ("-0", |x| x.bits() == T::of(-0.0).bits()),
         ] {
             if x.iter().any(is) {
                 self.count(format!("queries with {what}, {kind}"));
@@ -145,16 +168,17 @@ impl Corpus {
         for (a, &x) in axes.iter().zip(x) {
             if let Axis::Regular { start, step, .. } = a {
                 let q = ((x - *start) / *step).abs();
-                for e in [53, 63] {
-                    if q >= pow2(e).next_down() && q <= pow2(e).next_up() {
-                        self.count(format!("coordinates with a quotient at or beside 2^{e} or -2^{e}"));
+                for e in marks::<T>() {
+                    let mark = T::of(pow2(e));
+                    if q >= mark.down() && q <= mark.up() {
+                        self.count(beside(e));
                     }
                 }
             }
         }
         let places: Vec<Option<(usize, u8)>> = (0..n).map(|d| reader.place(x[d], d)).collect();
         let value = reader.one(x);
-        let mut gradient = vec![0.0; n];
+        let mut gradient = vec![T::zero(); n];
         let taken = reader.one_grad(x, &mut gradient);
         if let Some(axis) = places.iter().position(|p| p.is_none()) {
             assert!(value == Err(UNPLACEABLE) && taken == Err(UNPLACEABLE));
@@ -200,7 +224,7 @@ impl Corpus {
     }
 
     /// A grid that `new` refuses.
-    fn refused(&mut self, g: &Grid) -> bool {
+    fn refused<T: Width>(&mut self, g: &Grid<T>) -> bool {
         let Some(message) = read(g, |reader| reader.err()) else { return false };
         let (number, axis) = refusal(g, message);
         self.head("refused", g);
@@ -208,6 +232,13 @@ impl Corpus {
         self.words.extend([number as u64, axis as u64, 0]);
         true
     }
+}
+
+fn marks<T: Width>() -> [i64; 3] {
+    [T::DIGITS as i64 - 1, T::DIGITS as i64, 63]
+}
+fn beside(e: i64) -> String {
+    format!("coordinates with a quotient at or beside 2^{e} or -2^{e}")
 }
 
 /// Small counts: the words go to queries rather than to tables.
@@ -220,7 +251,7 @@ fn count(r: &mut Rng, many: usize) -> usize {
     }
 }
 
-fn grid(r: &mut Rng, rectilinear: bool, flavours: &[&str], many: usize) -> Vec<Axis> {
+fn grid<T: Width>(r: &mut Rng, rectilinear: bool, flavours: &[&str], many: usize) -> Vec<Axis<T>> {
     let longer = if many == 4 && r.coin() { r.below(4) } else { 9 };
     (0..many)
         .map(|d| {
@@ -235,21 +266,25 @@ fn how_many_axes(r: &mut Rng) -> usize {
     r.pick(&[1, 1, 1, 1, 1, 1, 1, 2, 2, 2, 2, 2, 2, 3, 3, 3, 3, 4, 4])
 }
 
-fn make(r: &mut Rng, o: &mut Corpus) {
+fn make<T: Width>(r: &mut Rng, o: &mut Corpus) {
+    let [zero, one] = [T::zero(), T::one()];
+    let all = |xs: &[f64]| xs.iter().map(|&x| T::of(x)).collect::<Vec<T>>();
     // The marked cases (clause 9.1), and the cubes 0, 1, 8, 27.
-    let five = [Axis::Regular { start: 0.0, step: 1.0, n: 5 }];
-    let uneven = [Axis::Rectilinear(vec![0.0, 1.0, 2.0, 4.0, 7.0])];
-    let cubes = [Axis::Regular { start: 0.0, step: 1.0, n: 4 }];
-    let single = |xs: &[f64]| xs.iter().map(|&x| vec![x]).collect::<Vec<_>>();
+    let five = [Axis::Regular { start: zero, step: one, n: 5 }];
+    let uneven = [Axis::Rectilinear(all(&[0.0, 1.0, 2.0, 4.0, 7.0]))];
+    let cubes = [Axis::Regular { start: zero, step: one, n: 4 }];
+    let single = |xs: &[f64]| xs.iter().map(|&x| vec![T::of(x)]).collect::<Vec<_>>();
     for straight in [false, true] {
         let v = values(r, "whole", 5);
         o.group("marked", &five, straight, v, single(&[-0.5, 0.0, 1.0, 2.5, 3.0, 4.0, pow2(63)]));
         let v = values(r, "whole", 5);
         o.group("marked", &uneven, straight, v, single(&[0.0, 1.0, 4.0, 7.0, 8.0]));
-        o.group("marked", &cubes, straight, vec![0.0, 1.0, 8.0, 27.0], single(&[1.5, 4.0, -0.0, -1e-300]));
-        o.group("marked", &cubes, straight, vec![f64::NAN; 4], single(&[1.5, 4.0]));
-        o.group("marked", &uneven, straight, vec![1.0; 5], vec![]);
-        o.group("marked", &five, straight, vec![1.0; 5], vec![]);
+        let mut queries = single(&[1.5, 4.0, -0.0]);
+        queries.push(vec![either(-1e-300, -1e-37)]);
+        o.group("marked", &cubes, straight, all(&[0.0, 1.0, 8.0, 27.0]), queries);
+        o.group("marked", &cubes, straight, vec![T::NAN; 4], single(&[1.5, 4.0]));
+        o.group("marked", &uneven, straight, vec![one; 5], vec![]);
+        o.group("marked", &five, straight, vec![one; 5], vec![]);
     }
 
     // Every class on every axis: all combinations on one to three axes, each at random on four.
@@ -264,7 +299,7 @@ fn make(r: &mut Rng, o: &mut Corpus) {
                 }
                 let (parts, size) = [(6, 5), (6, 25), (10, 13), (5, 10)][many - 1];
                 for part in 0..parts {
-                    let axes = grid(r, rectilinear, &ordinary, many);
+                    let axes = grid::<T>(r, rectilinear, &ordinary, many);
                     let v = any_values(r, product(&axes));
                     let queries = (0..size * if many == 1 { 3 } else { 1 })
                         .map(|i| {
@@ -283,7 +318,7 @@ fn make(r: &mut Rng, o: &mut Corpus) {
     // Nodes and their neighbours among the floats.
     for i in 0..60 {
         let many = how_many_axes(r);
-        let axes = grid(r, i % 2 == 1, &["exact", "exact", "whole", "plain", "wild"], many);
+        let axes = grid::<T>(r, i % 2 == 1, &["exact", "exact", "whole", "plain", "wild"], many);
         let v = any_values(r, product(&axes));
         let queries = (0..10).map(|_| axes.iter().map(|a| near_node(r, a)).collect()).collect();
         o.group("node", &axes, r.coin(), v, queries);
@@ -297,7 +332,7 @@ fn make(r: &mut Rng, o: &mut Corpus) {
         } else {
             &["whole", "plain", "whole", "extreme", "tiny", "huge"]
         };
-        let axes = grid(r, rectilinear, flavours, many);
+        let axes = grid::<T>(r, rectilinear, flavours, many);
         let v = any_values(r, product(&axes));
         let queries = (0..10)
             .map(|_| {
@@ -316,7 +351,7 @@ fn make(r: &mut Rng, o: &mut Corpus) {
         } else {
             &["huge", "tiny", "extreme", "wild", "huge", "tiny", "wild", "lost"]
         };
-        let axes = grid(r, rectilinear, flavours, many);
+        let axes = grid::<T>(r, rectilinear, flavours, many);
         let v = any_values(r, product(&axes));
         let queries = (0..8)
             .map(|_| axes.iter().map(|a| if r.one_in(3) { near_node(r, a) } else { any_class(r, a) }).collect())
@@ -326,7 +361,7 @@ fn make(r: &mut Rng, o: &mut Corpus) {
     // Quotients at the marks, some of them on one axis among ordinary others.
     for _ in 0..50 {
         let many = how_many_axes(r);
-        let axes = grid(r, false, &["quotient"], many);
+        let axes = grid::<T>(r, false, &["quotient"], many);
         let v = any_values(r, product(&axes));
         let queries = (0..14)
             .map(|_| {
@@ -339,7 +374,7 @@ fn make(r: &mut Rng, o: &mut Corpus) {
     // Flat gaps.
     for _ in 0..60 {
         let many = how_many_axes(r);
-        let axes = grid(r, true, &["flat", "flat", "zeros", "plain"], many);
+        let axes = grid::<T>(r, true, &["flat", "flat", "zeros", "plain"], many);
         let v = any_values(r, product(&axes));
         let queries = (0..9)
             .map(|_| axes.iter().map(|a| if r.coin() { near_node(r, a) } else { any_class(r, a) }).collect())
@@ -349,7 +384,7 @@ fn make(r: &mut Rng, o: &mut Corpus) {
     // NaN, infinities and extremes among the values; on axes of five to seven entries some blocks leave them out.
     for i in 0..80 {
         let many = r.pick(&[1, 1, 1, 2, 2, 3]);
-        let axes: Vec<Axis> = (0..many)
+        let axes: Vec<Axis<T>> = (0..many)
             .map(|_| {
                 let n = if many == 3 { 5 } else { r.pick(&[5, 6, 7]) };
                 let flavour = r.pick(&ordinary);
@@ -360,8 +395,8 @@ fn make(r: &mut Rng, o: &mut Corpus) {
         let mut v = values(r, flavour, product(&axes));
         for _ in 0..r.range(1, 2) {
             let at = r.pick(&[0, v.len() - 1, r.0 as usize % v.len()]);
-            let payload = f64::from_bits(0x7ff0_0000_0000_0000 | (r.next() >> 12) | 1);
-            v[at] = r.pick(&[f64::NAN, f64::NAN, payload, f64::INFINITY, f64::NEG_INFINITY, f64::MAX]);
+            let payload = with_payload(r.next());
+            v[at] = r.pick(&[T::NAN, T::NAN, payload, T::INFINITY, T::NEG_INFINITY, T::MAX]);
         }
         let queries = (0..10)
             .map(|_| axes.iter().map(|a| if r.one_in(3) { near_node(r, a) } else { any_class(r, a) }).collect())
@@ -371,13 +406,13 @@ fn make(r: &mut Rng, o: &mut Corpus) {
     // Floats by their bits: whatever comes.
     for i in 0..40 {
         let many = r.pick(&[1, 1, 1, 2]);
-        let axes = grid(r, i % 2 == 1, &["bits"], many);
+        let axes = grid::<T>(r, i % 2 == 1, &["bits"], many);
         let v = any_values(r, product(&axes));
         let queries = (0..8)
             .map(|_| {
                 axes.iter()
                     .map(|a| match r.below(3) {
-                        0 => f64::from_bits(r.next()),
+                        0 => T::from_bits(r.next()),
                         1 => near_node(r, a),
                         _ => any_class(r, a),
                     })
@@ -389,31 +424,37 @@ fn make(r: &mut Rng, o: &mut Corpus) {
     // The signs of zeros: a node at zero, queries at both zeros and beside them, values of zeros and ones.
     for i in 0..40 {
         let many = r.pick(&[1, 1, 1, 1, 2]);
-        let axes: Vec<Axis> = (0..many)
+        let axes: Vec<Axis<T>> = (0..many)
             .map(|_| {
                 let n = r.pick(&[4, 5]);
                 let k = r.below(n);
                 let step = r.pick(&[1.0, 0.5, 3.0]);
-                let node = |i: usize| (i as f64 - k as f64) * step;
-                if i % 2 == 0 { Axis::Regular { start: node(0), step, n } } else { Axis::Rectilinear((0..n).map(node).collect()) }
+                let node = |i: usize| T::of((i as f64 - k as f64) * step);
+                if i % 2 == 0 {
+                    Axis::Regular { start: node(0), step: T::of(step), n }
+                } else {
+                    Axis::Rectilinear((0..n).map(node).collect())
+                }
             })
             .collect();
-        let v = (0..product(&axes)).map(|_| r.pick(&[0.0, -0.0, 1.0, -1.0])).collect();
-        let queries = (0..6).map(|_| (0..many).map(|_| r.pick(&[0.0, -0.0, -0.0, -1e-320, 1e-320])).collect()).collect();
+        let v = (0..product(&axes)).map(|_| T::of(r.pick(&[0.0, -0.0, 1.0, -1.0]))).collect();
+        let (minus, small) = (T::of(-0.0), either::<T>(1e-320, 1e-40));
+        let queries = (0..6).map(|_| (0..many).map(|_| r.pick(&[zero, minus, minus, -small, small])).collect()).collect();
         o.group("zeros", &axes, r.coin(), v, queries);
     }
     // Batches that stop: an unplaceable query among good ones, at the beginning, in the middle, at the end, or two.
     for i in 0..50 {
         let many = how_many_axes(r);
-        let axes = grid(r, false, &ordinary, many);
+        let axes = grid::<T>(r, false, &ordinary, many);
         let v = any_values(r, product(&axes));
-        let mut queries: Vec<Vec<f64>> = (0..9).map(|_| axes.iter().map(|a| any_class(r, a)).collect()).collect();
+        let mut queries: Vec<Vec<T>> = (0..9).map(|_| axes.iter().map(|a| any_class(r, a)).collect()).collect();
         let any = r.below(9);
         let stops: [&[usize]; 5] = [&[4], &[0], &[8], &[3, 6], &[any]];
         for &at in stops[i % 5] {
             for d in 0..many {
                 if d == at % many || r.one_in(4) {
-                    queries[at][d] = r.pick(&[f64::NAN, f64::INFINITY, f64::NEG_INFINITY, 1e300, -1e300]);
+                    let far = either::<T>(1e300, 1e35);
+                    queries[at][d] = r.pick(&[T::NAN, T::INFINITY, T::NEG_INFINITY, far, -far]);
                 }
             }
         }
@@ -421,12 +462,12 @@ fn make(r: &mut Rng, o: &mut Corpus) {
     }
     // Grids that `new` refuses: first the orders that are easily missed, then faults at random.
     let regular = |axes: &[(f64, usize)], len: usize| {
-        let axes: Vec<Axis> = axes.iter().map(|&(step, n)| Axis::Regular { start: 0.0, step, n }).collect();
-        Grid::new(&axes, vec![1.0; len], false)
+        let axes: Vec<Axis<T>> = axes.iter().map(|&(step, n)| Axis::Regular { start: zero, step: T::of(step), n }).collect();
+        Grid::new(&axes, vec![one; len], false)
     };
     let rectilinear = |axes: &[&[f64]], len: usize| {
-        let axes: Vec<Axis> = axes.iter().map(|a| Axis::Rectilinear(a.to_vec())).collect();
-        Grid::new(&axes, vec![1.0; len], false)
+        let axes: Vec<Axis<T>> = axes.iter().map(|a| Axis::Rectilinear(all(a))).collect();
+        Grid::new(&axes, vec![one; len], false)
     };
     let good: &[f64] = &[0.0, 1.0, 2.0, 3.0];
     for g in [
@@ -450,14 +491,14 @@ fn make(r: &mut Rng, o: &mut Corpus) {
     let mut done = 0;
     while done < 66 {
         let many = how_many_axes(r).min(3);
-        let g = faulty(r, done % 2 == 1, many, &mut |r| r.pick(&[4, 4, 5]));
+        let g = faulty::<T>(r, done % 2 == 1, many, &mut |r| r.pick(&[4, 4, 5]));
         done += o.refused(&g) as usize;
     }
     // The longest axes, once of each kind.
     for rectilinear in [false, true] {
-        let axes = [axis(r, rectilinear, "whole", 4096)];
+        let axes = [axis::<T>(r, rectilinear, "whole", 4096)];
         let v = values(r, "whole", product(&axes));
-        let mut queries: Vec<Vec<f64>> = (0..30).map(|_| vec![any_class(r, &axes[0])]).collect();
+        let mut queries: Vec<Vec<T>> = (0..30).map(|_| vec![any_class(r, &axes[0])]).collect();
         queries.extend((0..30).map(|_| vec![near_node(r, &axes[0])]));
         o.group("long", &axes, rectilinear, v, queries);
     }
@@ -465,17 +506,18 @@ fn make(r: &mut Rng, o: &mut Corpus) {
     for straight in [false, true] {
         for many in 1..=2 {
             let v = values(r, "nan", 4usize.pow(many as u32));
-            let queries = vec![vec![f64::NAN; many], vec![-f64::NAN; many]];
+            let queries = vec![vec![T::NAN; many], vec![-T::NAN; many]];
             o.group("all NaN", &vec![cubes[0].clone(); many], straight, v.clone(), queries.clone());
-            o.group("all NaN", &vec![Axis::Rectilinear(good.to_vec()); many], straight, v, queries);
+            o.group("all NaN", &vec![Axis::Rectilinear(all(good)); many], straight, v, queries);
         }
     }
 }
 
 fn main() {
     let args: Vec<String> = std::env::args().skip(1).collect();
-    let [seed, file] = &args[..] else {
-        eprintln!("usage: corpus SEED FILE");
+    let (narrow, rest) = narrow(&args);
+    let [seed, file] = rest else {
+        eprintln!("usage: corpus [f32] SEED FILE");
         std::process::exit(2);
     };
     let seed: u64 = seed.parse().expect("a whole number as the seed");
@@ -497,10 +539,10 @@ fn main() {
         tally: BTreeMap::new(),
         classes: BTreeMap::new(),
     };
-    make(&mut r, &mut o);
+    if narrow { make::<f32>(&mut r, &mut o) } else { make::<f64>(&mut r, &mut o) }
     o.words[0] = o.groups as u64;
 
-    println!("seed {seed}");
+    println!("{}, seed {seed}", if narrow { "f32" } else { "f64" });
     println!("{:7} words, at most {MOST_WORDS}", o.words.len());
     println!("{:7} groups", o.groups);
     println!("{:7} queries", o.queries);
@@ -522,6 +564,9 @@ fn main() {
                 println!("  {}, axis count {n}, axis {axis}: {}", KINDS[kind], row.join(", "));
             }
         }
+    }
+    for e in if narrow { marks::<f32>() } else { marks::<f64>() } {
+        assert!(o.tally.contains_key(&beside(e)), "no quotient beside 2^{e}");
     }
     assert!(o.groups >= 600 && o.queries >= 5000 && o.words.len() <= MOST_WORDS);
     let bytes: Vec<u8> = o.words.iter().flat_map(|w| w.to_le_bytes()).collect();

@@ -1,11 +1,13 @@
 -- `ask_rectilinear`: `keep_rectilinear` makes the struct in a local, and `rectilinear_interp_one` is asked.
 use mathlib.Core.Path.{refl}
+use lib.Ieee.{binary64}
 use contract.Running.{givenOf, tables, tablesOf}
 use denote.Triple.Spec.{tripleOf}
 use denote.Triple.Table.{entered, cited}
 use Rattle.grids.proofs.Made.{ask-meets, said-of}
-use Rattle.grids.proofs.Query.{answer, query, asked, asked-fit, asked-anew}
+use Rattle.grids.proofs.Query.{query, asked, asked-fit, asked-anew}
 use Rattle.grids.proofs.Rectilinear.{rectilinear, rectilinear-maker}
+use Rattle.grids.proofs.Results.{answer}
 use Rattle.grids.proofs.keep_rectilinear as keep
 use Rattle.grids.proofs.keep_rectilinear.Symbol as keep-def
 use Rattle.grids.proofs.keep_rectilinear.Symbol.{name as #keep}
@@ -27,7 +29,7 @@ ask-rectilinear-spec 𝓤 H 𝓜 𝓖 𝓡 =
     (tables 𝓤 H 𝓜 𝓡 code.env .C) (tables 𝓤 H 𝓜 𝓡 code.env .Λ) #next code.function (code.unfolded 𝓤 H 𝓜 𝓡)
     (ask-meets 𝓤 H (𝓖 .A) W 2 (rectilinear 2 tt tt 𝓤 H (𝓖 .A) W) (rectilinear-maker 2 tt tt 𝓤 H (𝓖 .A) W)
     (λ κs a r e. keep.clauses 𝓤 H (𝓖 .A) (𝓜 .mem) (𝓡 .run) κs a .ensures tt r e) (λ κs a r e. refl)
-    (query 2) (answer 𝓤 H (𝓖 .A) W) (asked 2) (λ κs e. refl) (asked-fit 𝓤 H (𝓖 .A) W 2) (asked-anew 𝓤 H (𝓖 .A) W 2)
+    (query binary64 2) (answer 𝓤 H (𝓖 .A) W) (asked binary64 2) (λ κs e. refl) (asked-fit binary64 𝓤 H (𝓖 .A) W 2) (asked-anew binary64 𝓤 H (𝓖 .A) W 2)
     (λ κs a r e. one.clauses 𝓤 H (𝓖 .A) (𝓜 .mem) (𝓡 .run) κs a .ensures tt r e) (λ κs a r e. next.clauses 𝓤 H (𝓖 .A) (𝓜 .mem) (𝓡 .run) κs a .ensures tt r e)
     (λ κs a. (tt, (tt, (tt, (tt, (tt, (tt, tt))))))) (λ κs a. said-of 𝓤 H (𝓖 .A) 6) (λ κs a r e. refl) #keep #one
     (tablesOf 𝓤 H 𝓜 (tables 𝓤 H 𝓜 𝓡 code.env)) code.function (λ κs a. (refl, refl))

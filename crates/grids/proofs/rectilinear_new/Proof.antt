@@ -1,8 +1,9 @@
 -- `rectilinear_new`: the struct is taken apart for `rectilinear::new`.
 use mathlib.Core.Path.{refl}
 use Rattle.grids.proofs.Kept.{proved}
-use Rattle.grids.proofs.Query.{outcome, verdict-meets}
+use Rattle.grids.proofs.Query.{verdict-meets}
 use Rattle.grids.proofs.Rectilinear.{rectilinear-sizes}
+use Rattle.grids.proofs.Results.{outcome}
 use Rattle.rectilinear.proofs.new as step
 use Rattle.rectilinear.proofs.new.Symbol as step-def
 use Rattle.rectilinear.proofs.new.Symbol.{name as #step}

@@ -1,8 +1,9 @@
 -- `regular_new`: the struct is taken apart for `regular::new`.
 use mathlib.Core.Path.{refl}
 use Rattle.grids.proofs.Kept.{proved}
-use Rattle.grids.proofs.Query.{outcome, verdict-meets}
+use Rattle.grids.proofs.Query.{verdict-meets}
 use Rattle.grids.proofs.Regular.{regular-sizes}
+use Rattle.grids.proofs.Results.{outcome}
 use Rattle.regular.proofs.new as step
 use Rattle.regular.proofs.new.Symbol as step-def
 use Rattle.regular.proofs.new.Symbol.{name as #step}

@@ -50,7 +50,7 @@ returns-2 : tie.Need-returns-2
 returns-2 c =
     let a = c .before .before .before .before .before .before .before .before .before .before .before .before .before .before .args in
     let checks = gradient-checked binary64 (gridOf binary64 (a .axis-count) (a .axes) (now (a .vals)) (a .mode)) (now (a .queries)) (now (a .out)) _ _ (c .before .before .before .before .before .before .before .before .before .before .new .ensures .0) (c .before .before .before .before .before .before .before .before .before .check-gradients .ensures) ∙ c .before .before .before .before .before .before .before .enum-told2 .given .1 in
-    let f = fit binary64 (straightOf (a .mode)) (c .before .before .before .before .before .before .before .before .before .before .before .before .before .before .good .1 .0 .1 .0 .1) (record { values = length (now (a .vals)); checked = then-accepted _ _ checks .0 }) in
+    let f = fit binary64 (straightOf (a .mode)) {axes = a .axes} (c .before .before .before .before .before .before .before .before .before .before .before .before .before .before .good .1 .0 .1 .0 .1) (record { values = length (now (a .vals)); checked = then-accepted _ _ checks .0 }) in
     let e = c .before .before .before .before .before .before .linearize-extrapolation .ensures in
     let w = c .before .before .fill-columns .ensures in
     let outcome : _ ≡ gradOutcome binary64 (gridOf binary64 (a .axis-count) (a .axes) (now (a .vals)) (a .mode)) (now (a .queries)) (now (a .out)) = w .0 ∙ rw e (sym (grad-answers binary64 (gridOf binary64 (a .axis-count) (a .axes) (now (a .vals)) (a .mode)) (now (a .queries)) (now (a .out)) checks)) in

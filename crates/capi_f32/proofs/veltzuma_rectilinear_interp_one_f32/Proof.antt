@@ -1,0 +1,18 @@
+-- The value is told and written.
+use denote.Ref.{now}
+use lib.Ieee.{binary32}
+use Rattle.slices.specs.Slices.{modeOf}
+use Rattle.rectilinear_lent.specs.Rectilinear.{rectilinearFrom}
+use Rattle.rectilinear_lent.proofs.Gathering.{lent-to-query}
+use Rattle.capi.proofs.Laws.{interp-one-leaves}
+use Rattle.capi_f32.proofs.veltzuma_rectilinear_interp_one_f32.Statement.{statement}
+use Rattle.capi_f32.proofs.veltzuma_rectilinear_interp_one_f32.Tie as tie
+
+told : tie.Need-returns
+told c =
+    let a = c .before .before .before .before .before .before .before .before .before .before .before .before .before .before .before .before .before .args in
+    let lent = lent-to-query binary32 (a .axis-count) (now (a .counts)) (now (a .axes)) (now (a .vals)) (modeOf (a .straight)) (c .before .before .before .before .before .before .before .before .before .counts-from .ensures) _ _ _ _ (c .before .before .before .before .before .before .before .before .before .before .check-query-slices .ensures) in
+    interp-one-leaves (rectilinearFrom binary32 (a .axis-count) (now (a .counts)) (now (a .axes)) (now (a .vals)) (modeOf (a .straight))) (now (a .x)) (now (a .refusal)) (c .before .before .before .before .before .before .before .before .query-from .ensures) binary32 (now (a .value)) lent (c .before .before .before .before .tell-value .ensures) (c .before .before .before .before .before .before .before .interp-one .ensures)
+
+pub veltzuma-rectilinear-interp-one-f32-spec : {M : Type 1} → statement M
+veltzuma-rectilinear-interp-one-f32-spec = tie.close (tie.spec (λ c κs. tt) (λ c κs. tt) (λ c κs. tt) (λ c κs. tt) (λ c κs. tt) (λ c. c .before .before .before .before .tell-value .kept .1 .0) (λ c. c .before .before .before .before .tell-value .kept .1 .1 .0) told)

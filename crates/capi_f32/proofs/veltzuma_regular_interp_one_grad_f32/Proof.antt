@@ -1,0 +1,19 @@
+-- The gradient is told and written.
+use denote.Ref.{now}
+use lib.Ieee.{binary32}
+use Rattle.slices.specs.Slices.{modeOf}
+use Rattle.regular_lent.specs.Regular.{regularFrom}
+use Rattle.regular_lent.proofs.Gathering.{lent-to-query}
+use Rattle.capi.proofs.Laws.{interp-one-grad-leaves}
+use Rattle.capi_f32.proofs.veltzuma_regular_interp_one_grad_f32.Statement.{statement}
+use Rattle.capi_f32.proofs.veltzuma_regular_interp_one_grad_f32.Tie as tie
+
+told : tie.Need-returns
+unfolding regularFrom
+told c =
+    let a = c .before .before .before .before .before .before .before .before .before .before .before .before .before .before .before .before .before .before .before .args in
+    let lent = lent-to-query binary32 (a .axis-count) (now (a .counts)) (now (a .starts)) (now (a .steps)) (now (a .vals)) (modeOf (a .straight)) (c .before .before .before .before .before .before .before .before .before .before .before .shortest-of .ensures) (c .before .before .before .before .before .before .before .before .before .axes-from .ensures) _ _ _ _ (c .before .before .before .before .before .before .before .before .before .before .check-query-slices .ensures) in
+    interp-one-grad-leaves (regularFrom binary32 (a .axis-count) (now (a .counts)) (now (a .starts)) (now (a .steps)) (now (a .vals)) (modeOf (a .straight))) (now (a .x)) (now (a .refusal)) (c .before .before .before .before .before .before .before .before .query-from .ensures) binary32 (now (a .gradient)) lent (c .before .before .before .before .tell-gradient .ensures) (c .before .before .before .before .before .before .before .interp-one-grad .ensures)
+
+pub veltzuma-regular-interp-one-grad-f32-spec : {M : Type 1} → statement M
+veltzuma-regular-interp-one-grad-f32-spec = tie.close (tie.spec (λ c κs. tt) (λ c κs. tt) (λ c κs. tt) (λ c κs. tt) (λ c κs. tt) (λ c κs. tt) (λ c. c .before .before .before .before .tell-gradient .kept .1 .1 .0) (λ c. c .before .before .before .before .tell-gradient .kept .1 .1 .1 .0) told)

@@ -1,0 +1,403 @@
+// f32: written by tools/width from crates/capi/src/lib.rt; what has no float is called there.
+// The calls for C and for other languages that link C: numbers and slices only, of any length. A slice is a pointer and a length. Each gives the
+// number of clause 2.2, and writes query and axis to `refusal`.
+ghost use mathlib.Core.Path.{_≡_};
+ghost use lib.Ieee.{binary32};
+ghost use Rattle.multicubic.specs.declared.EdgeMode.{EdgeMode};
+ghost use Rattle.slices.specs.Slices.{modeOf};
+ghost use Rattle.regular_lent.specs.Regular.{regularFrom};
+ghost use Rattle.rectilinear_lent.specs.Rectilinear.{rectilinearFrom};
+ghost use Rattle.capi.specs.Calls.{newLeaves, getLocLeaves, interpOneLeaves, interpOneGradLeaves, interpLeaves, interpGradLeaves};
+use slices::check_query_slices;
+use slices::check_slices;
+use slices::counts_from;
+use slices::least;
+use slices::shortest_of;
+use slices_f32::axes_from;
+use slices_f32::query_from;
+use told::tell;
+use told::tell_places;
+use told_f32::tell_gradient;
+use told_f32::tell_value;
+
+// Takes a grid or turns it away.
+#[no_mangle]
+pub extern "C" fn veltzuma_regular_new_f32(
+    axis_count: usize,
+    counts: &[usize],
+    starts: &[f32],
+    steps: &[f32],
+    vals: &[f32],
+    refusal: &mut [usize],
+) -> u8
+    ensures { λ r. ⌜
+        ((mode : EdgeMode) → record { number = r; refusal = now (refusal .exit); written = tt }
+        ≡ newLeaves
+        (regularFrom binary32 «axis_count» (now (counts .entry)) (now (starts .entry)) (now (steps .entry)) (now (vals .entry)) mode) (now (refusal .entry)))
+        ⌝ }
+{
+    let shortest = shortest_of(counts.len(), starts.len(), steps.len());
+    let slices = check_slices(axis_count, shortest, refusal.len());
+    let outcome = regular_lent_f32::new(slices, axis_count, axes_from(counts, starts, steps), vals);
+    tell(outcome, refusal)
+}
+
+// The place of a query: origin and class on every axis.
+#[no_mangle]
+pub extern "C" fn veltzuma_regular_get_loc_f32(
+    axis_count: usize,
+    counts: &[usize],
+    starts: &[f32],
+    steps: &[f32],
+    vals: &[f32],
+    x: &[f32],
+    refusal: &mut [usize],
+    origins: &mut [usize],
+    classes: &mut [u8],
+) -> u8
+    ensures { λ r. ⌜
+        ((mode : EdgeMode) → record { number = r; refusal = now (refusal .exit); written = (now (origins .exit), now (classes .exit)) }
+        ≡ getLocLeaves
+        (regularFrom binary32 «axis_count» (now (counts .entry)) (now (starts .entry)) (now (steps .entry)) (now (vals .entry)) mode)
+        (now (x .entry)) (now (refusal .entry)) (now (origins .entry)) (now (classes .entry)))
+        ⌝ }
+{
+    let shortest = shortest_of(counts.len(), starts.len(), steps.len());
+    let room = least(origins.len(), classes.len());
+    let slices = check_query_slices(
+        axis_count,
+        shortest,
+        x.len(),
+        refusal.len(),
+        room,
+        axis_count,
+    );
+    let axes = axes_from(counts, starts, steps);
+    let answer = regular_lent_f32::get_loc(slices, axis_count, axes, vals, query_from(x));
+    tell_places(answer, axis_count, refusal, origins, classes)
+}
+
+// The value at a query.
+#[no_mangle]
+pub extern "C" fn veltzuma_regular_interp_one_f32(
+    axis_count: usize,
+    counts: &[usize],
+    starts: &[f32],
+    steps: &[f32],
+    vals: &[f32],
+    straight: bool,
+    x: &[f32],
+    refusal: &mut [usize],
+    value: &mut [f32],
+) -> u8
+    ensures { λ r. ⌜
+        record { number = r; refusal = now (refusal .exit); written = now (value .exit) }
+        ≡ interpOneLeaves binary32
+        (regularFrom binary32 «axis_count» (now (counts .entry)) (now (starts .entry)) (now (steps .entry)) (now (vals .entry)) (modeOf straight))
+        (now (x .entry)) (now (refusal .entry)) (now (value .entry))
+        ⌝ }
+{
+    let shortest = shortest_of(counts.len(), starts.len(), steps.len());
+    let room = value.len();
+    let slices = check_query_slices(axis_count, shortest, x.len(), refusal.len(), room, 1);
+    let axes = axes_from(counts, starts, steps);
+    let at = query_from(x);
+    let answer = regular_lent_f32::interp_one(slices, axis_count, axes, vals, straight, at);
+    tell_value(answer, refusal, value)
+}
+
+// The gradient at a query.
+#[no_mangle]
+pub extern "C" fn veltzuma_regular_interp_one_grad_f32(
+    axis_count: usize,
+    counts: &[usize],
+    starts: &[f32],
+    steps: &[f32],
+    vals: &[f32],
+    straight: bool,
+    x: &[f32],
+    refusal: &mut [usize],
+    gradient: &mut [f32],
+) -> u8
+    ensures { λ r. ⌜
+        record { number = r; refusal = now (refusal .exit); written = now (gradient .exit) }
+        ≡ interpOneGradLeaves binary32
+        (regularFrom binary32 «axis_count» (now (counts .entry)) (now (starts .entry)) (now (steps .entry)) (now (vals .entry)) (modeOf straight))
+        (now (x .entry)) (now (refusal .entry)) (now (gradient .entry))
+        ⌝ }
+{
+    let shortest = shortest_of(counts.len(), starts.len(), steps.len());
+    let room = gradient.len();
+    let slices = check_query_slices(
+        axis_count,
+        shortest,
+        x.len(),
+        refusal.len(),
+        room,
+        axis_count,
+    );
+    let axes = axes_from(counts, starts, steps);
+    let at = query_from(x);
+    let answer = regular_lent_f32::interp_one_grad(slices, axis_count, axes, vals, straight, at);
+    tell_gradient(answer, axis_count, refusal, gradient)
+}
+
+// The values of a batch.
+#[no_mangle]
+pub extern "C" fn veltzuma_regular_interp_f32(
+    axis_count: usize,
+    counts: &[usize],
+    starts: &[f32],
+    steps: &[f32],
+    vals: &[f32],
+    straight: bool,
+    queries: &[f32],
+    refusal: &mut [usize],
+    out: &mut [f32],
+) -> u8
+    ensures { λ r. ⌜
+        record { number = r; refusal = now (refusal .exit); written = now (out .exit) }
+        ≡ interpLeaves binary32
+        (regularFrom binary32 «axis_count» (now (counts .entry)) (now (starts .entry)) (now (steps .entry)) (now (vals .entry)) (modeOf straight))
+        (now (queries .entry)) (now (refusal .entry)) (now (out .entry))
+        ⌝ }
+{
+    let shortest = shortest_of(counts.len(), starts.len(), steps.len());
+    let slices = check_slices(axis_count, shortest, refusal.len());
+    let axes = axes_from(counts, starts, steps);
+    let outcome = regular_lent_f32::interp(slices, axis_count, axes, vals, straight, queries, out);
+    tell(outcome, refusal)
+}
+
+// The gradients of a batch.
+#[no_mangle]
+pub extern "C" fn veltzuma_regular_interp_grad_f32(
+    axis_count: usize,
+    counts: &[usize],
+    starts: &[f32],
+    steps: &[f32],
+    vals: &[f32],
+    straight: bool,
+    queries: &[f32],
+    refusal: &mut [usize],
+    out: &mut [f32],
+) -> u8
+    ensures { λ r. ⌜
+        record { number = r; refusal = now (refusal .exit); written = now (out .exit) }
+        ≡ interpGradLeaves binary32
+        (regularFrom binary32 «axis_count» (now (counts .entry)) (now (starts .entry)) (now (steps .entry)) (now (vals .entry)) (modeOf straight))
+        (now (queries .entry)) (now (refusal .entry)) (now (out .entry))
+        ⌝ }
+{
+    let shortest = shortest_of(counts.len(), starts.len(), steps.len());
+    let slices = check_slices(axis_count, shortest, refusal.len());
+    let axes = axes_from(counts, starts, steps);
+    let outcome = regular_lent_f32::interp_grad(
+        slices,
+        axis_count,
+        axes,
+        vals,
+        straight,
+        queries,
+        out,
+    );
+    tell(outcome, refusal)
+}
+
+// Takes a grid or turns it away.
+#[no_mangle]
+pub extern "C" fn veltzuma_rectilinear_new_f32(
+    axis_count: usize,
+    counts: &[usize],
+    axes: &[f32],
+    vals: &[f32],
+    refusal: &mut [usize],
+) -> u8
+    ensures { λ r. ⌜
+        ((mode : EdgeMode) → record { number = r; refusal = now (refusal .exit); written = tt }
+        ≡ newLeaves
+        (rectilinearFrom binary32 «axis_count» (now (counts .entry)) (now (axes .entry)) (now (vals .entry)) mode) (now (refusal .entry)))
+        ⌝ }
+{
+    let slices = check_slices(axis_count, counts.len(), refusal.len());
+    let outcome = rectilinear_lent_f32::new(slices, axis_count, counts_from(counts), axes, vals);
+    tell(outcome, refusal)
+}
+
+// The place of a query: origin and class on every axis.
+#[no_mangle]
+pub extern "C" fn veltzuma_rectilinear_get_loc_f32(
+    axis_count: usize,
+    counts: &[usize],
+    axes: &[f32],
+    vals: &[f32],
+    x: &[f32],
+    refusal: &mut [usize],
+    origins: &mut [usize],
+    classes: &mut [u8],
+) -> u8
+    ensures { λ r. ⌜
+        ((mode : EdgeMode) → record { number = r; refusal = now (refusal .exit); written = (now (origins .exit), now (classes .exit)) }
+        ≡ getLocLeaves
+        (rectilinearFrom binary32 «axis_count» (now (counts .entry)) (now (axes .entry)) (now (vals .entry)) mode)
+        (now (x .entry)) (now (refusal .entry)) (now (origins .entry)) (now (classes .entry)))
+        ⌝ }
+{
+    let room = least(origins.len(), classes.len());
+    let slices = check_query_slices(
+        axis_count,
+        counts.len(),
+        x.len(),
+        refusal.len(),
+        room,
+        axis_count,
+    );
+    let four = counts_from(counts);
+    let answer = rectilinear_lent_f32::get_loc(slices, axis_count, four, axes, vals, query_from(x));
+    tell_places(answer, axis_count, refusal, origins, classes)
+}
+
+// The value at a query.
+#[no_mangle]
+pub extern "C" fn veltzuma_rectilinear_interp_one_f32(
+    axis_count: usize,
+    counts: &[usize],
+    axes: &[f32],
+    vals: &[f32],
+    straight: bool,
+    x: &[f32],
+    refusal: &mut [usize],
+    value: &mut [f32],
+) -> u8
+    ensures { λ r. ⌜
+        record { number = r; refusal = now (refusal .exit); written = now (value .exit) }
+        ≡ interpOneLeaves binary32
+        (rectilinearFrom binary32 «axis_count» (now (counts .entry)) (now (axes .entry)) (now (vals .entry)) (modeOf straight))
+        (now (x .entry)) (now (refusal .entry)) (now (value .entry))
+        ⌝ }
+{
+    let room = value.len();
+    let slices = check_query_slices(axis_count, counts.len(), x.len(), refusal.len(), room, 1);
+    let four = counts_from(counts);
+    let at = query_from(x);
+    let answer = rectilinear_lent_f32::interp_one(
+        slices,
+        axis_count,
+        four,
+        axes,
+        vals,
+        straight,
+        at,
+    );
+    tell_value(answer, refusal, value)
+}
+
+// The gradient at a query.
+#[no_mangle]
+pub extern "C" fn veltzuma_rectilinear_interp_one_grad_f32(
+    axis_count: usize,
+    counts: &[usize],
+    axes: &[f32],
+    vals: &[f32],
+    straight: bool,
+    x: &[f32],
+    refusal: &mut [usize],
+    gradient: &mut [f32],
+) -> u8
+    ensures { λ r. ⌜
+        record { number = r; refusal = now (refusal .exit); written = now (gradient .exit) }
+        ≡ interpOneGradLeaves binary32
+        (rectilinearFrom binary32 «axis_count» (now (counts .entry)) (now (axes .entry)) (now (vals .entry)) (modeOf straight))
+        (now (x .entry)) (now (refusal .entry)) (now (gradient .entry))
+        ⌝ }
+{
+    let room = gradient.len();
+    let slices = check_query_slices(
+        axis_count,
+        counts.len(),
+        x.len(),
+        refusal.len(),
+        room,
+        axis_count,
+    );
+    let four = counts_from(counts);
+    let at = query_from(x);
+    let answer = rectilinear_lent_f32::interp_one_grad(
+        slices,
+        axis_count,
+        four,
+        axes,
+        vals,
+        straight,
+        at,
+    );
+    tell_gradient(answer, axis_count, refusal, gradient)
+}
+
+// The values of a batch.
+#[no_mangle]
+pub extern "C" fn veltzuma_rectilinear_interp_f32(
+    axis_count: usize,
+    counts: &[usize],
+    axes: &[f32],
+    vals: &[f32],
+    straight: bool,
+    queries: &[f32],
+    refusal: &mut [usize],
+    out: &mut [f32],
+) -> u8
+    ensures { λ r. ⌜
+        record { number = r; refusal = now (refusal .exit); written = now (out .exit) }
+        ≡ interpLeaves binary32
+        (rectilinearFrom binary32 «axis_count» (now (counts .entry)) (now (axes .entry)) (now (vals .entry)) (modeOf straight))
+        (now (queries .entry)) (now (refusal .entry)) (now (out .entry))
+        ⌝ }
+{
+    let slices = check_slices(axis_count, counts.len(), refusal.len());
+    let four = counts_from(counts);
+    let outcome = rectilinear_lent_f32::interp(
+        slices,
+        axis_count,
+        four,
+        axes,
+        vals,
+        straight,
+        queries,
+        out,
+    );
+    tell(outcome, refusal)
+}
+
+// The gradients of a batch.
+#[no_mangle]
+pub extern "C" fn veltzuma_rectilinear_interp_grad_f32(
+    axis_count: usize,
+    counts: &[usize],
+    axes: &[f32],
+    vals: &[f32],
+    straight: bool,
+    queries: &[f32],
+    refusal: &mut [usize],
+    out: &mut [f32],
+) -> u8
+    ensures { λ r. ⌜
+        record { number = r; refusal = now (refusal .exit); written = now (out .exit) }
+        ≡ interpGradLeaves binary32
+        (rectilinearFrom binary32 «axis_count» (now (counts .entry)) (now (axes .entry)) (now (vals .entry)) (modeOf straight))
+        (now (queries .entry)) (now (refusal .entry)) (now (out .entry))
+        ⌝ }
+{
+    let slices = check_slices(axis_count, counts.len(), refusal.len());
+    let four = counts_from(counts);
+    let outcome = rectilinear_lent_f32::interp_grad(
+        slices,
+        axis_count,
+        four,
+        axes,
+        vals,
+        straight,
+        queries,
+        out,
+    );
+    tell(outcome, refusal)
+}

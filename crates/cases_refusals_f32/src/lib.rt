@@ -1,0 +1,179 @@
+// f32: written by tools/width from crates/cases_refusals/src/lib.rt; what has no float is called there.
+// The cases of refusals 1 to 5 that need no grid of their own, on both kinds, with what is easily missed of their order.
+use cases_calls::Score;
+use cases_calls_f32::rectilinear_refused;
+use cases_calls_f32::rectilinear_refused_order;
+use cases_calls_f32::rectilinear_taken;
+use cases_calls_f32::regular_refused;
+use cases_calls_f32::regular_taken;
+
+// Counts 3 | 4 and 4,096 | 4,097.
+fn regular_counts(s: Score) -> Score {
+    let s = regular_refused(s, 1, [3, 0, 0], [1.0; 2], 3, 4, 0, b"regular, 3 entries");
+    let s = regular_taken(s, 4, b"regular, 4 entries, no queries");
+    let s = regular_taken(s, 4096, b"regular, 4,096 entries, no queries");
+    regular_refused(
+        s,
+        1,
+        [4097, 0, 0],
+        [1.0; 2],
+        4097,
+        2,
+        0,
+        b"regular, 4,097 entries",
+    )
+}
+
+fn rectilinear_counts(s: Score) -> Score {
+    let s = rectilinear_refused(s, 1, [3, 0, 0], 3, 3, 4, 0, b"rectilinear, 3 entries");
+    let s = rectilinear_taken(s, 4, b"rectilinear, 4 entries, no queries");
+    let s = rectilinear_taken(s, 4096, b"rectilinear, 4,096 entries, no queries");
+    rectilinear_refused(
+        s,
+        1,
+        [4097, 0, 0],
+        4097,
+        4097,
+        2,
+        0,
+        b"rectilinear, 4,097 entries",
+    )
+}
+
+// Refusals 1 to 3 of a regular grid.
+fn regular_sizes(s: Score) -> Score {
+    let s = regular_refused(s, 0, [4, 4, 4], [1.0; 2], 0, 1, 0, b"regular, 1: no axes");
+    let s = regular_refused(s, 5, [4, 4, 4], [1.0; 2], 0, 1, 0, b"regular, 1: 5 axes");
+    let s = regular_refused(
+        s,
+        2,
+        [4096, 4096, 0],
+        [1.0; 2],
+        0,
+        2,
+        0,
+        b"regular, 2: product",
+    );
+    let s = regular_refused(s, 1, [4, 0, 0], [1.0; 2], 3, 3, 0, b"regular, 3: values");
+    regular_refused(s, 1, [3, 0, 0], [1.0; 2], 4, 3, 0, b"regular, 3 before 4")
+}
+
+// Refusals 4 and 5.
+fn regular_steps(s: Score) -> Score {
+    let nan = 0.0 / 0.0;
+    let s = regular_refused(s, 2, [4, 3, 0], [1.0; 2], 12, 4, 1, b"regular, 4: axis 1");
+    let s = regular_refused(
+        s,
+        2,
+        [4, 3, 0],
+        [nan, 1.0],
+        12,
+        4,
+        1,
+        b"regular, 4 before 5",
+    );
+    let s = regular_refused(
+        s,
+        3,
+        [4096, 4096, 0],
+        [1.0; 2],
+        0,
+        4,
+        2,
+        b"regular, 4: counts 4096, 4096, 0",
+    );
+    let s = regular_refused(
+        s,
+        2,
+        [4, 4, 0],
+        [1.0, 0.0],
+        16,
+        5,
+        1,
+        b"regular, 5: step 0 on axis 1",
+    );
+    let s = regular_refused(
+        s,
+        2,
+        [4, 4, 0],
+        [1.0, nan],
+        16,
+        5,
+        1,
+        b"regular, 5: step NaN on axis 1",
+    );
+    regular_refused(
+        s,
+        2,
+        [4, 4, 0],
+        [-1.0, -1.0],
+        16,
+        5,
+        0,
+        b"regular, 5: lowest axis",
+    )
+}
+
+// Refusals 1 and 2 of a rectilinear grid.
+fn rectilinear_axes(s: Score) -> Score {
+    let s = rectilinear_refused(s, 0, [4, 4, 4], 0, 0, 1, 0, b"rectilinear, 1: no axes");
+    let s = rectilinear_refused(s, 5, [4, 4, 4], 0, 0, 1, 0, b"rectilinear, 1: 5 axes");
+    rectilinear_refused(
+        s,
+        2,
+        [4096, 4096, 0],
+        8192,
+        0,
+        2,
+        0,
+        b"rectilinear, 2: product",
+    )
+}
+
+// Refusals 3 and 4.
+fn rectilinear_sizes(s: Score) -> Score {
+    let s = rectilinear_refused(s, 1, [4, 0, 0], 4, 3, 3, 0, b"rectilinear, 3: values");
+    let s = rectilinear_refused(s, 1, [4, 0, 0], 5, 4, 3, 0, b"rectilinear, 3: axes");
+    let s = rectilinear_refused(s, 1, [3, 0, 0], 3, 4, 3, 0, b"rectilinear, 3 before 4");
+    let s = rectilinear_refused(s, 2, [4, 3, 0], 7, 12, 4, 1, b"rectilinear, 4: axis 1");
+    rectilinear_refused(
+        s,
+        3,
+        [4096, 4096, 0],
+        8192,
+        0,
+        4,
+        2,
+        b"rectilinear, 4: counts 4096, 4096, 0",
+    )
+}
+
+// Refusal 5, on two axes of four entries.
+fn rectilinear_rising(s: Score) -> Score {
+    let nan = 0.0 / 0.0;
+    let same = [0.0, 1.0, 2.0, 3.0, 0.0, 0.0, 2.0, 3.0];
+    let below = [0.0, 1.0, 2.0, 1.0, 0.0, 0.0, 2.0, 3.0];
+    let nan_0 = [0.0, 1.0, 2.0, 3.0, nan, 1.0, 2.0, 3.0];
+    let nan_1 = [0.0, nan, 2.0, 3.0, 0.0, 0.0, 2.0, 3.0];
+    let s = rectilinear_refused_order(
+        s,
+        same,
+        5,
+        1,
+        b"rectilinear, 5: entry 1 = entry 0 on axis 1",
+    );
+    let s = rectilinear_refused_order(s, below, 5, 1, b"rectilinear, 5 before 6");
+    let s = rectilinear_refused_order(s, nan_0, 5, 1, b"rectilinear, 5: entry 0 NaN");
+    rectilinear_refused_order(s, nan_1, 5, 0, b"rectilinear, 5: entry 1 NaN")
+}
+
+// All of them.
+pub fn refusals(s: Score) -> Score {
+    let s = regular_counts(s);
+    let s = rectilinear_counts(s);
+    let s = regular_sizes(s);
+    let s = regular_steps(s);
+    let s = rectilinear_axes(s);
+    let s = rectilinear_sizes(s);
+    rectilinear_rising(s)
+}

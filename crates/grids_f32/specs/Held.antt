@@ -1,0 +1,15 @@
+-- The grid that a caller's struct holds: the plain calls' grid, of the fields.
+use lib.Ieee.{Format}
+use denote.Ref.{now}
+use Rattle.multicubic_f32.specs.Same.{asAxes}
+use Rattle.grid.specs.Query.{Grid}
+use Rattle.regular_query.specs.Grid.{gridOf as regularOf}
+use Rattle.rectilinear_query.specs.Grid.{gridOf as rectilinearOf}
+use Rattle.grids_f32.specs.declared.MulticubicRegularF32.{MulticubicRegularF32 as MulticubicRegular}
+use Rattle.grids_f32.specs.declared.MulticubicRectilinearF32.{MulticubicRectilinearF32 as MulticubicRectilinear}
+
+abbrev pub heldRegular : Format → MulticubicRegular → Grid
+heldRegular f g = regularOf f (g .«axis_count») (asAxes (g .axes)) (now (g .vals)) (g .mode)
+
+abbrev pub heldRectilinear : Format → MulticubicRectilinear → Grid
+heldRectilinear f g = rectilinearOf f (g .«axis_count») (g .counts) (now (g .axes)) (now (g .vals)) (g .mode)

@@ -1,0 +1,2 @@
+-- What tells a NaN.
+pub mod Nan

@@ -1,0 +1,2 @@
+-- The f32 answer as the definitions read it.
+pub mod Same

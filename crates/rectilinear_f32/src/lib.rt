@@ -1,0 +1,219 @@
+// f32: written by tools/width from crates/rectilinear/src/lib.rt; what has no float is called there.
+// A rectilinear grid of src/multicubic/rectilinear.rs: `new`, the place, the value and the gradient of a query.
+ghost use mathlib.Core.Path.{_≡_};
+ghost use mathlib.Core.Bool.{Bool};
+ghost use lib.ListN.{length};
+ghost use lib.Ieee.{binary32};
+ghost use Rattle.multicubic.specs.Answers.{Says, answerOutcome, valueIn};
+ghost use Rattle.multicubic.specs.declared.EdgeMode.{EdgeMode};
+ghost use Rattle.grid.specs.Query.{find, foundOutcome, outcomeOf, at, placeAnswer, valueAnswer, valueCarried, gradientAnswer};
+ghost use Rattle.grid.specs.Internal.{Located, gradientTo};
+ghost use Rattle.rectilinear_query.specs.Grid.{checksOf, axesIn, gridOf};
+ghost use Rattle.rectilinear_query.specs.Internal.{Taken, Ready};
+ghost use Rattle.multicubic_f32.specs.Same.{asAnswer};
+use grid::Quantity;
+use multicubic::AxesLength;
+use multicubic::EdgeMode;
+use multicubic::Loc;
+use multicubic::Outcome;
+use multicubic::PlaceAnswer;
+use multicubic::check_sizes;
+use multicubic::linearize_extrapolation;
+use multicubic::nowhere;
+use multicubic::refused_query;
+use multicubic_f32::AnswerF32;
+use multicubic_f32::GradientAnswerF32;
+use multicubic_f32::answered;
+use multicubic_f32::outcome_of;
+use rectilinear_order_f32::check_order;
+use rectilinear_query_f32::answer_at;
+use reduction::strides;
+
+// Takes a grid or turns it away: checks 1 to 6. The axes are joined one after the other.
+pub fn new(axis_count: usize, counts: [usize; 4], axes: &[f32], vals: &[f32]) -> Outcome
+    ensures { λ r. ⌜ r ≡ checksOf «axis_count» counts (now (axes .entry)) (length (now (vals .entry))) ⌝ }
+    ensures { λ r. ⌜ Says r (checksOf «axis_count» counts (now (axes .entry)) (length (now (vals .entry)))) ⌝ }
+{
+    let sizes = check_sizes(
+        axis_count,
+        counts,
+        vals.len(),
+        AxesLength::Joined(axes.len()),
+    );
+    match sizes {
+        Outcome::Refused { .. } => sizes,
+        Outcome::Accepted => check_order(axis_count, counts, axes),
+    }
+}
+
+// A query's place on every axis, or refusal 8 with its lowest unplaceable axis.
+fn locate(axis_count: usize, counts: [usize; 4], axes: &[f32], x: [f32; 4]) -> PlaceAnswer
+    requires { ⌜ Taken «axis_count» counts (now axes) ⌝ }
+    ensures { λ r. ⌜ ((straight : Bool) → Located 0 (axesIn binary32 straight «axis_count» counts (now (axes .entry))) (at x) r) ⌝ }
+{
+    let mut places = nowhere();
+    let mut start: usize = 0;
+    let mut i: usize = 0;
+    while i < axis_count {
+        let end = start + counts[i];
+        let loc = rectilinear_axis_f32::get_loc(&axes[start..end], x[i]);
+        let Loc::At(place) = loc else {
+            return PlaceAnswer {
+                outcome: refused_query(0, i),
+                places: nowhere(),
+            };
+        };
+        places[i] = place;
+        start = end;
+        i += 1;
+    }
+    PlaceAnswer {
+        outcome: Outcome::Accepted,
+        places,
+    }
+}
+
+// The place of a query on a grid: the grid's checks, then origin and class on every axis, or 8.
+pub fn get_loc(
+    axis_count: usize,
+    counts: [usize; 4],
+    axes: &[f32],
+    vals: &[f32],
+    x: [f32; 4],
+) -> PlaceAnswer
+    ensures { λ r. ⌜
+        ((mode : EdgeMode) → r .outcome ≡ outcomeOf (gridOf binary32 «axis_count» counts (now (axes .entry)) (now (vals .entry)) mode) (at x))
+        ⌝ }
+    ensures { λ r. ⌜
+        ((mode : EdgeMode) → r .places ≡ placeAnswer (gridOf binary32 «axis_count» counts (now (axes .entry)) (now (vals .entry)) mode) (at x))
+        ⌝ }
+    ensures { λ r. ⌜
+        ((mode : EdgeMode) → Says (r .outcome) (outcomeOf (gridOf binary32 «axis_count» counts (now (axes .entry)) (now (vals .entry)) mode) (at x)))
+        ⌝ }
+{
+    let checked = new(axis_count, counts, axes, vals);
+    match checked {
+        Outcome::Refused { .. } => PlaceAnswer {
+            outcome: checked,
+            places: nowhere(),
+        },
+        Outcome::Accepted => locate(axis_count, counts, axes, x),
+    }
+}
+
+// The value at a query, or the refusal.
+pub fn interp_one(
+    axis_count: usize,
+    counts: [usize; 4],
+    axes: &[f32],
+    vals: &[f32],
+    mode: EdgeMode,
+    x: [f32; 4],
+) -> AnswerF32
+    ensures { λ r. ⌜ asAnswer r ≡ valueAnswer binary32 (gridOf binary32 «axis_count» counts (now (axes .entry)) (now (vals .entry)) mode) (at x) ⌝ }
+    ensures { λ r. ⌜ Says (answerOutcome (asAnswer r)) (outcomeOf (gridOf binary32 «axis_count» counts (now (axes .entry)) (now (vals .entry)) mode) (at x)) ⌝ }
+    ensures { λ r. ⌜ valueIn (asAnswer r) ≡ valueCarried binary32 (gridOf binary32 «axis_count» counts (now (axes .entry)) (now (vals .entry)) mode) (at x) ⌝ }
+{
+    let checked = new(axis_count, counts, axes, vals);
+    match checked {
+        Outcome::Refused { .. } => answered(checked, 0.0),
+        Outcome::Accepted => answer_at(
+            axis_count,
+            counts,
+            axes,
+            vals,
+            linearize_extrapolation(mode),
+            strides(axis_count, counts),
+            &x,
+            1,
+            0,
+            Quantity::Value,
+        ),
+    }
+}
+
+// The gradient on a grid that is taken, component by component.
+fn gradient_at(
+    axis_count: usize,
+    counts: [usize; 4],
+    axes: &[f32],
+    vals: &[f32],
+    linearize_extrapolation: bool,
+    strides: [usize; 4],
+    x: [f32; 4],
+) -> GradientAnswerF32
+    requires { ⌜ Ready «axis_count» counts (now axes) (length (now vals)) strides ⌝ }
+    ensures { λ r. ⌜
+        r .outcome ≡ foundOutcome 0 (find 0 (axesIn binary32 «linearize_extrapolation» «axis_count» counts (now (axes .entry))) (at x))
+        ⌝ }
+    ensures { λ r. ⌜
+        r .gradient ≡ gradientTo binary32 (axesIn binary32 «linearize_extrapolation» «axis_count» counts (now (axes .entry))) (now (vals .entry))
+        (find 0 (axesIn binary32 «linearize_extrapolation» «axis_count» counts (now (axes .entry))) (at x))
+        ⌝ }
+{
+    let mut gradient = [0.0; 4];
+    let mut d: usize = 0;
+    while d < axis_count {
+        let component = answer_at(
+            axis_count,
+            counts,
+            axes,
+            vals,
+            linearize_extrapolation,
+            strides,
+            &x,
+            1,
+            0,
+            Quantity::Component(d),
+        );
+        match component {
+            AnswerF32::Refused { .. } => {
+                return GradientAnswerF32 {
+                    outcome: outcome_of(component),
+                    gradient: [0.0; 4],
+                };
+            }
+            AnswerF32::Value(v) => {
+                gradient[d] = v;
+            }
+        }
+        d += 1;
+    }
+    GradientAnswerF32 {
+        outcome: Outcome::Accepted,
+        gradient,
+    }
+}
+
+// The gradient at a query, or the refusal.
+pub fn interp_one_grad(
+    axis_count: usize,
+    counts: [usize; 4],
+    axes: &[f32],
+    vals: &[f32],
+    mode: EdgeMode,
+    x: [f32; 4],
+) -> GradientAnswerF32
+    ensures { λ r. ⌜ r .outcome ≡ outcomeOf (gridOf binary32 «axis_count» counts (now (axes .entry)) (now (vals .entry)) mode) (at x) ⌝ }
+    ensures { λ r. ⌜
+        r .gradient ≡ gradientAnswer binary32 (gridOf binary32 «axis_count» counts (now (axes .entry)) (now (vals .entry)) mode) (at x)
+        ⌝ }
+    ensures { λ r. ⌜ Says (r .outcome) (outcomeOf (gridOf binary32 «axis_count» counts (now (axes .entry)) (now (vals .entry)) mode) (at x)) ⌝ }
+{
+    let checked = new(axis_count, counts, axes, vals);
+    match checked {
+        Outcome::Refused { .. } => GradientAnswerF32 {
+            outcome: checked,
+            gradient: [0.0; 4],
+        },
+        Outcome::Accepted => gradient_at(
+            axis_count,
+            counts,
+            axes,
+            vals,
+            linearize_extrapolation(mode),
+            strides(axis_count, counts),
+            x,
+        ),
+    }
+}

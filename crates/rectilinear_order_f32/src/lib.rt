@@ -1,0 +1,92 @@
+// f32: written by tools/width from crates/rectilinear_order/src/lib.rt; what has no float is called there.
+// The order of the axes of a rectilinear grid: checks 5 and 6. The Rust compares only the first two entries of each axis.
+ghost use mathlib.Core.Path.{_≡_};
+ghost use Prim.Native.Nat.{ℕ, _≤_, _<_};
+ghost use lib.ListN.{length, getD, take};
+ghost use Rattle.multicubic.specs.Grid.{sum, lowest};
+ghost use Rattle.rectilinear_order.specs.Grid.{axesOf, notRising, disorder, orderChecks};
+ghost use Rattle.rectilinear_order.specs.Internal.{faultOf};
+use multicubic::Outcome;
+
+// Check 5 on one axis: entry 1 is not above entry 0.
+fn not_rising(grid: &[f32]) -> bool
+    requires { ⌜ 4 ≤ length (now grid) ⌝ }
+    ensures { λ r. ⌜ r ≡ notRising (now (grid .entry)) ⌝ }
+{
+    !(grid[0] < grid[1])
+}
+
+// Check 6 on one axis: an entry is NaN or below the one before it.
+fn disordered(grid: &[f32]) -> bool
+    requires { ⌜ 4 ≤ length (now grid) ⌝ }
+    ensures { λ r. ⌜ r ≡ disorder (now (grid .entry)) ⌝ }
+{
+    let mut i: usize = 1;
+    while i < grid.len() {
+        let before = grid[i - 1];
+        let entry = grid[i];
+        if before <= entry {
+            i += 1;
+        } else {
+            return true;
+        }
+    }
+    false
+}
+
+// Check 6 where it is asked for, else check 5.
+fn faulty(grid: &[f32], order: bool) -> bool
+    requires { ⌜ 4 ≤ length (now grid) ⌝ }
+    ensures { λ r. ⌜ r ≡ faultOf order (now (grid .entry)) ⌝ }
+{
+    if order {
+        disordered(grid)
+    } else {
+        not_rising(grid)
+    }
+}
+
+// The refusal of the lowest axis that the check finds at fault.
+fn first_faulty(
+    axis_count: usize,
+    counts: [usize; 4],
+    axes: &[f32],
+    order: bool,
+    number: u8,
+) -> Outcome
+    requires { ⌜ «axis_count» ≤ 4 ⌝ }
+    requires { ⌜ sum (take «axis_count» counts) ≡ length (now axes) ⌝ }
+    requires { ⌜ ((i : ℕ) → i < «axis_count» → 4 ≤ getD counts i 0) ⌝ }
+    ensures { λ r. ⌜ r ≡ lowest number (faultOf order) 0 (axesOf (take «axis_count» counts) (now (axes .entry))) ⌝ }
+{
+    let mut at: usize = 0;
+    let mut i: usize = 0;
+    while i < axis_count {
+        let end = at + counts[i];
+        let grid = &axes[at..end];
+        if faulty(grid, order) {
+            return Outcome::Refused {
+                number,
+                query: 0,
+                axis: i,
+            };
+        }
+        at = end;
+        i += 1;
+    }
+    Outcome::Accepted
+}
+
+// Checks 5 and 6, each over all axes before the next.
+pub fn check_order(axis_count: usize, counts: [usize; 4], axes: &[f32]) -> Outcome
+    requires { ⌜ «axis_count» ≤ 4 ⌝ }
+    requires { ⌜ sum (take «axis_count» counts) ≡ length (now axes) ⌝ }
+    requires { ⌜ ((i : ℕ) → i < «axis_count» → 4 ≤ getD counts i 0) ⌝ }
+    ensures { λ r. ⌜ r ≡ orderChecks (axesOf (take «axis_count» counts) (now (axes .entry))) ⌝ }
+{
+    let rising = first_faulty(axis_count, counts, axes, false, 5);
+    match rising {
+        Outcome::Refused { .. } => rising,
+        Outcome::Accepted => first_faulty(axis_count, counts, axes, true, 6),
+    }
+}

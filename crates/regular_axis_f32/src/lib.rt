@@ -1,0 +1,197 @@
+// f32: written by tools/width from crates/regular_axis/src/lib.rt; what has no float is called there.
+// One axis of src/multicubic/regular.rs: the place of a query, and the weights of its block.
+ghost use mathlib.Core.Path.{_≡_};
+ghost use Prim.Native.Nat.{suc, _≤_, _<_};
+ghost use lib.Ieee.{binary32};
+ghost use Rattle.multicubic.specs.Answers.{numberOf, placeOutcome, placeIn};
+ghost use Rattle.regular_axis.specs.Place.{locOf, locNumber, locPlace};
+ghost use Rattle.regular_axis.specs.Weights.{node, tOf, interior, cubicEnd, atLow, atHigh, endOf, endSlopeOf};
+ghost use Rattle.regular_axis.specs.Weights.{weightsOf, derivativesOf, weightsAt, derivativesAt};
+use interp_math_f32::hermite_basis;
+use interp_math_f32::hermite_basis_derivative;
+use interp_math_f32::scale_weights;
+use multicubic::Loc;
+use multicubic::Place;
+use multicubic::Saturation;
+use multicubic::place_from;
+use multicubic_f32::AxisF32;
+
+// The place of v. A quotient below zero has a negative floor, so it is OutsideLow; from zero on the floor is the truncation.
+pub fn get_loc(axis: AxisF32, v: f32) -> Loc
+    requires { ⌜ 4 ≤ axis .count ⌝ }
+    ensures { λ r. ⌜ r ≡ locOf binary32 (axis .start) (axis .step) (axis .count) v ⌝ }
+    ensures { λ r. ⌜ numberOf (placeOutcome 0 0 r) ≡ locNumber binary32 (axis .start) (axis .step) v ⌝ }
+    ensures { λ r. ⌜ placeIn r ≡ locPlace binary32 (axis .start) (axis .step) (axis .count) v ⌝ }
+{
+    let n = axis.count;
+    let q = (v - axis.start) / axis.step;
+    if q >= 0.0 {
+        if q < 9223372036854775808.0 {
+            let floor = std::num::truncating_f32_to_u64(q) as usize;
+            return Loc::At(place_from(n, floor + 1));
+        }
+        return Loc::Unplaceable;
+    }
+    if q >= -9223372036854775808.0 {
+        return Loc::At(place_from(n, 0));
+    }
+    Loc::Unplaceable
+}
+
+// The block's point 1.
+fn index_one_loc(axis: AxisF32, origin: usize) -> f32
+    requires { ⌜ origin < 4096 ⌝ }
+    ensures { λ r. ⌜ r ≡ node binary32 (axis .start) (axis .step) (suc origin) ⌝ }
+{
+    axis.start + axis.step * (((origin + 1) as u16) as f32)
+}
+
+// v relative to the block's point 1, in steps.
+fn local_t(axis: AxisF32, origin: usize, v: f32) -> f32
+    requires { ⌜ origin < 4096 ⌝ }
+    ensures { λ r. ⌜ r ≡ tOf binary32 (axis .start) (axis .step) origin v ⌝ }
+{
+    (v - index_one_loc(axis, origin)) / axis.step
+}
+
+// A class's row from the basis of t, or from its derivative.
+fn interior(h: [f32; 4]) -> [f32; 4]
+    ensures { λ r. ⌜ r ≡ interior binary32 h ⌝ }
+{
+    let one = 1.0;
+    let two = one + one;
+    [
+        -h[1] / two,
+        h[0] - h[3] / two,
+        h[2] + h[1] / two,
+        h[3] / two,
+    ]
+}
+
+// An end's weights: of the end point, the one beside it, and the next. The two ends mirror each other.
+fn cubic_end(h: [f32; 4]) -> [f32; 3]
+    ensures { λ r. ⌜ r ≡ cubicEnd binary32 h ⌝ }
+{
+    let one = 1.0;
+    let two = one + one;
+    [
+        h[2] + h[1] / two + (one + one / two) * h[3],
+        h[0] - two * h[3],
+        (h[3] - h[1]) / two,
+    ]
+}
+
+fn end_weights(t: f32, linearize_extrapolation: bool) -> [f32; 3]
+    ensures { λ r. ⌜ r ≡ endOf binary32 t «linearize_extrapolation» ⌝ }
+{
+    let one = 1.0;
+    let two = one + one;
+    if linearize_extrapolation {
+        let s = t - one;
+        [one + s * (one + one / two), -two * s, s / two]
+    } else {
+        cubic_end(hermite_basis(t))
+    }
+}
+
+fn end_weight_derivatives(t: f32, linearize_extrapolation: bool) -> [f32; 3]
+    ensures { λ r. ⌜ r ≡ endSlopeOf binary32 t «linearize_extrapolation» ⌝ }
+{
+    let one = 1.0;
+    let two = one + one;
+    if linearize_extrapolation {
+        [one + one / two, -two, one / two]
+    } else {
+        cubic_end(hermite_basis_derivative(t))
+    }
+}
+
+fn low_weights(t: f32, linearize_extrapolation: bool) -> [f32; 4]
+    ensures { λ r. ⌜ r ≡ atLow (endOf binary32 t «linearize_extrapolation») ⌝ }
+{
+    let e = end_weights(t, linearize_extrapolation);
+    [e[0], e[1], e[2], 0.0]
+}
+
+fn low_weight_derivatives(t: f32, linearize_extrapolation: bool) -> [f32; 4]
+    ensures { λ r. ⌜ r ≡ atLow (endSlopeOf binary32 t «linearize_extrapolation») ⌝ }
+{
+    let e = end_weight_derivatives(t, linearize_extrapolation);
+    [e[0], e[1], e[2], 0.0]
+}
+
+fn high_weights(t: f32, linearize_extrapolation: bool) -> [f32; 4]
+    ensures { λ r. ⌜ r ≡ atHigh (endOf binary32 t «linearize_extrapolation») ⌝ }
+{
+    let e = end_weights(t, linearize_extrapolation);
+    [0.0, e[2], e[1], e[0]]
+}
+
+fn high_weight_derivatives(t: f32, linearize_extrapolation: bool) -> [f32; 4]
+    ensures { λ r. ⌜ r ≡ atHigh (endSlopeOf binary32 t «linearize_extrapolation») ⌝ }
+{
+    let e = end_weight_derivatives(t, linearize_extrapolation);
+    [0.0, e[2], e[1], e[0]]
+}
+
+// The four weights of a block, by the class of the query's place.
+fn interp_weights(t: f32, sat: Saturation, linearize_extrapolation: bool) -> [f32; 4]
+    ensures { λ r. ⌜ r ≡ weightsOf binary32 sat «linearize_extrapolation» t ⌝ }
+{
+    match sat {
+        Saturation::None => interior(hermite_basis(t)),
+        Saturation::InsideLow => low_weights(-t, false),
+        Saturation::OutsideLow => low_weights(-t, linearize_extrapolation),
+        Saturation::InsideHigh => high_weights(t - 1.0, false),
+        Saturation::OutsideHigh => high_weights(t - 1.0, linearize_extrapolation),
+    }
+}
+
+// Their derivatives by the query.
+fn interp_weight_derivatives(
+    t: f32,
+    sat: Saturation,
+    linearize_extrapolation: bool,
+    inv_step: f32,
+) -> [f32; 4]
+    ensures { λ r. ⌜ r ≡ derivativesOf binary32 sat «linearize_extrapolation» t «inv_step» ⌝ }
+{
+    match sat {
+        Saturation::None => scale_weights(interior(hermite_basis_derivative(t)), inv_step),
+        Saturation::InsideLow => scale_weights(low_weight_derivatives(-t, false), -inv_step),
+        Saturation::OutsideLow => scale_weights(
+            low_weight_derivatives(-t, linearize_extrapolation),
+            -inv_step,
+        ),
+        Saturation::InsideHigh => scale_weights(high_weight_derivatives(t - 1.0, false), inv_step),
+        Saturation::OutsideHigh => scale_weights(
+            high_weight_derivatives(t - 1.0, linearize_extrapolation),
+            inv_step,
+        ),
+    }
+}
+
+// The weights of v's block at its place.
+pub fn weights_at(axis: AxisF32, v: f32, place: Place, linearize_extrapolation: bool) -> [f32; 4]
+    requires { ⌜ place .origin < 4096 ⌝ }
+    ensures { λ r. ⌜ r ≡ weightsAt binary32 (axis .start) (axis .step) «linearize_extrapolation» v place ⌝ }
+{
+    let class = place.class;
+    let t = local_t(axis, place.origin, v);
+    interp_weights(t, class, linearize_extrapolation)
+}
+
+// Its derivative weights.
+pub fn derivatives_at(
+    axis: AxisF32,
+    v: f32,
+    place: Place,
+    linearize_extrapolation: bool,
+) -> [f32; 4]
+    requires { ⌜ place .origin < 4096 ⌝ }
+    ensures { λ r. ⌜ r ≡ derivativesAt binary32 (axis .start) (axis .step) «linearize_extrapolation» v place ⌝ }
+{
+    let class = place.class;
+    let t = local_t(axis, place.origin, v);
+    interp_weight_derivatives(t, class, linearize_extrapolation, 1.0 / axis.step)
+}

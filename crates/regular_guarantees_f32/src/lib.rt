@@ -1,0 +1,86 @@
+// f32: written by tools/width from crates/regular_guarantees/src/lib.rt; what has no float is called there.
+// Section 8 said of the calls on a regular grid: two tables on the same axes, each with its own values and setting, asked alone and in a batch.
+ghost use mathlib.Core.Path.{_≡_};
+ghost use lib.ListN.{take};
+ghost use lib.Ieee.{binary32};
+ghost use Rattle.grid.specs.Query.{at};
+ghost use Rattle.grid.specs.Batch.{interpOutcome};
+ghost use Rattle.regular_query.specs.Grid.{gridOf, AllPremises};
+ghost use Rattle.guarantees.specs.Statements.{AnswersOf, BuffersOf, OwedAlone, OwedInBatch};
+ghost use Rattle.multicubic_f32.specs.Same.{asAnswer, asAxes};
+use guarantees_f32::TwoTablesF32;
+use multicubic::EdgeMode;
+use multicubic::Outcome;
+use multicubic_f32::AxisF32;
+
+// A query asked alone: `interp_one` and `interp_one_grad` on both tables.
+pub fn alone(
+    axis_count: usize,
+    axes: [AxisF32; 4],
+    x: [f32; 4],
+    vals: &[f32],
+    mode: EdgeMode,
+    other_vals: &[f32],
+    other_mode: EdgeMode,
+) -> TwoTablesF32
+    ensures { λ r. ⌜ OwedAlone (AllPremises (take «axis_count» (asAxes axes)))
+        (gridOf binary32 «axis_count» (asAxes axes) (now (vals .entry)) mode)
+        (gridOf binary32 «axis_count» (asAxes axes) (now («other_vals» .entry)) «other_mode»)
+        (at x) (asAnswer (r .value)) (asAnswer (r .«other_value»))
+        (r .gradient .outcome) (r .«other_gradient» .outcome) (r .gradient .gradient) (r .«other_gradient» .gradient) ⌝ }
+    ensures { λ r. ⌜ AnswersOf binary32 (gridOf binary32 «axis_count» (asAxes axes) (now (vals .entry)) mode) (at x)
+        (asAnswer (r .value)) (r .gradient .outcome) (r .gradient .gradient) ⌝ }
+    ensures { λ r. ⌜ AnswersOf binary32 (gridOf binary32 «axis_count» (asAxes axes) (now («other_vals» .entry)) «other_mode») (at x)
+        (asAnswer (r .«other_value»)) (r .«other_gradient» .outcome) (r .«other_gradient» .gradient) ⌝ }
+{
+    let value = regular_f32::interp_one(axis_count, axes, vals, mode, x);
+    let gradient = regular_f32::interp_one_grad(axis_count, axes, vals, mode, x);
+    let other_value = regular_f32::interp_one(axis_count, axes, other_vals, other_mode, x);
+    let other_gradient = regular_f32::interp_one_grad(axis_count, axes, other_vals, other_mode, x);
+    TwoTablesF32 {
+        value,
+        gradient,
+        other_value,
+        other_gradient,
+    }
+}
+
+// A batch: `interp` and `interp_grad` on both tables.
+pub fn in_batch(
+    axis_count: usize,
+    axes: [AxisF32; 4],
+    queries: &[f32],
+    vals: &[f32],
+    mode: EdgeMode,
+    out: &mut [f32],
+    grad: &mut [f32],
+    other_vals: &[f32],
+    other_mode: EdgeMode,
+    other_out: &mut [f32],
+    other_grad: &mut [f32],
+) -> Outcome
+    ensures { λ r. ⌜ OwedInBatch binary32 (AllPremises (take «axis_count» (asAxes axes)))
+        (gridOf binary32 «axis_count» (asAxes axes) (now (vals .entry)) mode)
+        (gridOf binary32 «axis_count» (asAxes axes) (now («other_vals» .entry)) «other_mode»)
+        (now (queries .entry)) r (now (out .entry)) (now (out .exit)) (now («other_out» .entry)) (now («other_out» .exit))
+        (now (grad .entry)) (now (grad .exit)) (now («other_grad» .entry)) (now («other_grad» .exit)) ⌝ }
+    ensures { λ r. ⌜ r ≡ interpOutcome binary32 (gridOf binary32 «axis_count» (asAxes axes) (now (vals .entry)) mode)
+        (now (queries .entry)) (now (out .entry)) ⌝ }
+    ensures { λ r. ⌜ BuffersOf binary32 (gridOf binary32 «axis_count» (asAxes axes) (now (vals .entry)) mode)
+        (now (queries .entry)) (now (out .entry)) (now (out .exit)) (now (grad .entry)) (now (grad .exit)) ⌝ }
+    ensures { λ r. ⌜ BuffersOf binary32 (gridOf binary32 «axis_count» (asAxes axes) (now («other_vals» .entry)) «other_mode»)
+        (now (queries .entry)) (now («other_out» .entry)) (now («other_out» .exit)) (now («other_grad» .entry)) (now («other_grad» .exit)) ⌝ }
+{
+    let outcome = regular_batch_f32::interp(axis_count, axes, vals, mode, queries, out);
+    regular_batch_f32::interp_grad(axis_count, axes, vals, mode, queries, grad);
+    regular_batch_f32::interp(axis_count, axes, other_vals, other_mode, queries, other_out);
+    regular_batch_f32::interp_grad(
+        axis_count,
+        axes,
+        other_vals,
+        other_mode,
+        queries,
+        other_grad,
+    );
+    outcome
+}

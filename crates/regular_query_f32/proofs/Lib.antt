@@ -1,0 +1,2 @@
+-- A regular grid over f32 axes.
+pub mod Read

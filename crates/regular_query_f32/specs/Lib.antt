@@ -1,0 +1,2 @@
+-- What internal functions ask of each other.
+pub mod Internal

@@ -1,0 +1,26 @@
+/* Reads one table in both widths from one program: each archive has its own twelve calls. 0.1 is no float of either width, so the answers
+ * differ, each rounded in its own. Exits with 1 where an answer is not what docs/SPECIFICATION.md says. */
+#include <stdio.h>
+
+#include "../include/veltzuma.h"
+
+int main(void) {
+    const size_t counts[1] = {4};
+    const double starts[1] = {0.0}, steps[1] = {1.0}, vals[4] = {0.0, 1.0, 8.0, 27.0}, x[1] = {1.5}, tenth[1] = {0.1};
+    const float starts_f32[1] = {0.0f}, steps_f32[1] = {1.0f}, vals_f32[4] = {0.0f, 1.0f, 8.0f, 27.0f}, x_f32[1] = {1.5f}, tenth_f32[1] = {0.1f};
+    size_t refusal[2] = {9, 9};
+    double value[1] = {0.0};
+    float value_f32[1] = {0.0f};
+    int wrong = 0;
+
+    wrong |= veltzuma_regular_interp_one(1, counts, 1, starts, 1, steps, 1, vals, 4, false, x, 1, refusal, 2, value, 1) != 0;
+    wrong |= veltzuma_regular_interp_one_f32(1, counts, 1, starts_f32, 1, steps_f32, 1, vals_f32, 4, false, x_f32, 1, refusal, 2, value_f32, 1) != 0;
+    printf("value at 1.5, double and float       %.17g %.9g\n", value[0], (double)value_f32[0]);
+    wrong |= value[0] != 3.375 || value_f32[0] != 3.375f;
+
+    wrong |= veltzuma_regular_interp_one(1, counts, 1, starts, 1, steps, 1, vals, 4, false, tenth, 1, refusal, 2, value, 1) != 0;
+    wrong |= veltzuma_regular_interp_one_f32(1, counts, 1, starts_f32, 1, steps_f32, 1, vals_f32, 4, false, tenth_f32, 1, refusal, 2, value_f32, 1) != 0;
+    printf("value at 0.1, double and float       %.17g %.9g\n", value[0], (double)value_f32[0]);
+    wrong |= value[0] == (double)value_f32[0];
+    return wrong;
+}
