@@ -22,5 +22,12 @@ int main(void) {
     wrong |= veltzuma_regular_interp_one_f32(1, counts, 1, starts_f32, 1, steps_f32, 1, vals_f32, 4, false, tenth_f32, 1, refusal, 2, value_f32, 1) != 0;
     printf("value at 0.1, double and float       %.17g %.9g\n", value[0], (double)value_f32[0]);
     wrong |= value[0] == (double)value_f32[0];
+
+    /* 2^63 has no place in either width; 2^63 - 2^39 is the float below it. */
+    const float far_f32[3] = {1.5f, 9223371487098961920.0f, 9223372036854775808.0f};
+    float out_f32[3] = {-1.0f, -2.0f, -3.0f};
+    uint8_t number = veltzuma_regular_interp_f32(1, counts, 1, starts_f32, 1, steps_f32, 1, vals_f32, 4, true, far_f32, 3, refusal, 2, out_f32, 3);
+    printf("batch of float, number and query     %u %zu\n", number, refusal[0]);
+    wrong |= number != 8 || refusal[0] != 2 || refusal[1] != 0 || out_f32[0] != 3.375f || out_f32[1] == -2.0f || out_f32[2] != -3.0f;
     return wrong;
 }

@@ -89,43 +89,44 @@ uint8_t veltzuma_regular_interp_grad(VELTZUMA_REGULAR, bool straight, const doub
 uint8_t veltzuma_rectilinear_interp_grad(VELTZUMA_RECTILINEAR, bool straight, const double *queries, size_t queries_len,
                                          size_t *refusal, size_t refusal_len, double *out, size_t out_len);
 
-/* The same calls in single precision, float for double, in libcapi_f32.a. Each operation is rounded in that width. Both archives can be
- * linked into one program. */
-#define VELTZUMA_REGULAR_F32                                                                                                       \
-    size_t axis_count, const size_t *counts, size_t counts_len, const float *starts, size_t starts_len, const float *steps,   \
+/* The same calls in single precision, float for double, in libcapi_f32.a. Each operation is rounded in that width. Both
+ * archives can be linked into one program. */
+#define VELTZUMA_REGULAR_F32                                                                                                   \
+    size_t axis_count, const size_t *counts, size_t counts_len, const float *starts, size_t starts_len, const float *steps,    \
         size_t steps_len, const float *vals, size_t vals_len
 
-#define VELTZUMA_RECTILINEAR_F32                                                                                                   \
-    size_t axis_count, const size_t *counts, size_t counts_len, const float *axes, size_t axes_len, const float *vals,        \
+#define VELTZUMA_RECTILINEAR_F32                                                                                               \
+    size_t axis_count, const size_t *counts, size_t counts_len, const float *axes, size_t axes_len, const float *vals,         \
         size_t vals_len
 
 uint8_t veltzuma_regular_new_f32(VELTZUMA_REGULAR_F32, size_t *refusal, size_t refusal_len);
 uint8_t veltzuma_rectilinear_new_f32(VELTZUMA_RECTILINEAR_F32, size_t *refusal, size_t refusal_len);
 
 uint8_t veltzuma_regular_get_loc_f32(VELTZUMA_REGULAR_F32, const float *x, size_t x_len, size_t *refusal, size_t refusal_len,
-                                 size_t *origins, size_t origins_len, uint8_t *classes, size_t classes_len);
-uint8_t veltzuma_rectilinear_get_loc_f32(VELTZUMA_RECTILINEAR_F32, const float *x, size_t x_len, size_t *refusal, size_t refusal_len,
                                      size_t *origins, size_t origins_len, uint8_t *classes, size_t classes_len);
+uint8_t veltzuma_rectilinear_get_loc_f32(VELTZUMA_RECTILINEAR_F32, const float *x, size_t x_len, size_t *refusal,
+                                         size_t refusal_len, size_t *origins, size_t origins_len, uint8_t *classes,
+                                         size_t classes_len);
 
 uint8_t veltzuma_regular_interp_one_f32(VELTZUMA_REGULAR_F32, bool straight, const float *x, size_t x_len, size_t *refusal,
-                                    size_t refusal_len, float *value, size_t value_len);
-uint8_t veltzuma_rectilinear_interp_one_f32(VELTZUMA_RECTILINEAR_F32, bool straight, const float *x, size_t x_len, size_t *refusal,
                                         size_t refusal_len, float *value, size_t value_len);
+uint8_t veltzuma_rectilinear_interp_one_f32(VELTZUMA_RECTILINEAR_F32, bool straight, const float *x, size_t x_len,
+                                            size_t *refusal, size_t refusal_len, float *value, size_t value_len);
 
 uint8_t veltzuma_regular_interp_one_grad_f32(VELTZUMA_REGULAR_F32, bool straight, const float *x, size_t x_len, size_t *refusal,
-                                         size_t refusal_len, float *gradient, size_t gradient_len);
+                                             size_t refusal_len, float *gradient, size_t gradient_len);
 uint8_t veltzuma_rectilinear_interp_one_grad_f32(VELTZUMA_RECTILINEAR_F32, bool straight, const float *x, size_t x_len,
-                                             size_t *refusal, size_t refusal_len, float *gradient, size_t gradient_len);
+                                                 size_t *refusal, size_t refusal_len, float *gradient, size_t gradient_len);
 
-uint8_t veltzuma_regular_interp_f32(VELTZUMA_REGULAR_F32, bool straight, const float *queries, size_t queries_len, size_t *refusal,
-                                size_t refusal_len, float *out, size_t out_len);
-uint8_t veltzuma_rectilinear_interp_f32(VELTZUMA_RECTILINEAR_F32, bool straight, const float *queries, size_t queries_len,
+uint8_t veltzuma_regular_interp_f32(VELTZUMA_REGULAR_F32, bool straight, const float *queries, size_t queries_len,
                                     size_t *refusal, size_t refusal_len, float *out, size_t out_len);
+uint8_t veltzuma_rectilinear_interp_f32(VELTZUMA_RECTILINEAR_F32, bool straight, const float *queries, size_t queries_len,
+                                        size_t *refusal, size_t refusal_len, float *out, size_t out_len);
 
 uint8_t veltzuma_regular_interp_grad_f32(VELTZUMA_REGULAR_F32, bool straight, const float *queries, size_t queries_len,
-                                     size_t *refusal, size_t refusal_len, float *out, size_t out_len);
-uint8_t veltzuma_rectilinear_interp_grad_f32(VELTZUMA_RECTILINEAR_F32, bool straight, const float *queries, size_t queries_len,
                                          size_t *refusal, size_t refusal_len, float *out, size_t out_len);
+uint8_t veltzuma_rectilinear_interp_grad_f32(VELTZUMA_RECTILINEAR_F32, bool straight, const float *queries, size_t queries_len,
+                                             size_t *refusal, size_t refusal_len, float *out, size_t out_len);
 
 #ifdef __cplusplus
 }
