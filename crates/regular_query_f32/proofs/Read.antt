@@ -48,13 +48,10 @@ read-at (a ∷ axes) zero = refl
 read-at (a ∷ axes) (suc j) = read-at axes j
 
 -- check 5 sees the same steps
-rising-from : (n i : ℕ) (axes : List AxisF32) → lowest 5 Grid.notRising i (take n (asAxes axes)) ≡ lowest 5 notRising i (take n axes)
-rising-from zero i axes = refl
-rising-from (suc n) i [] = refl
-rising-from (suc n) i (a ∷ axes) = ap (cond (notRising a) (Refused 5 0 i)) (rising-from n (suc i) axes)
-
-pub rising : (n : ℕ) (axes : List AxisF32) → lowest 5 Grid.notRising 0 (take n (asAxes axes)) ≡ lowest 5 notRising 0 (take n axes)
-rising n axes = rising-from n 0 axes
+pub rising : (n i : ℕ) (axes : List AxisF32) → lowest 5 Grid.notRising i (take n (asAxes axes)) ≡ lowest 5 notRising i (take n axes)
+rising zero i axes = refl
+rising (suc n) i [] = refl
+rising (suc n) i (a ∷ axes) = ap (cond (notRising a) (Refused 5 0 i)) (rising n (suc i) axes)
 
 pub counts-four : (axes : List AxisF32) → length axes ≡ 4 → getD axes 0 noAxis .count ∷ getD axes 1 noAxis .count ∷ getD axes 2 noAxis .count ∷ getD axes 3 noAxis .count ∷ [] ≡ Grid.countsOf (asAxes axes)
 counts-four axes four =

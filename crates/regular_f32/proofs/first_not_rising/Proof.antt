@@ -35,14 +35,14 @@ unfolding ofBits
 returns c =
     let l = c .before .before .loop in
     let a = c .before .before .before .args in
-    sym (rising (a .axis-count) (a .t2) ∙ l .inv .3 ∙ fault-here notRising 5 (a .t2) noAxis (a .axis-count) (l .i) (c .before .loop-test .taken) (omega arith) (ap not (c .if1 .left)))
+    sym (rising (a .axis-count) 0 (a .t2) ∙ l .inv .3 ∙ fault-here notRising 5 (a .t2) noAxis (a .axis-count) (l .i) (c .before .loop-test .taken) (omega arith) (ap not (c .if1 .left)))
 
 returns-2 : tie.Need-returns-2 Inv-loop μ-loop
 returns-2 c =
     let l = c .before .loop in
     let a = c .before .before .args in
     let e : l .i ≡ a .axis-count = omega arith in
-    sym (rising (a .axis-count) (a .t2) ∙ l .inv .3 ∙ rw (e, slice-empty))
+    sym (rising (a .axis-count) 0 (a .t2) ∙ l .inv .3 ∙ rw (e, slice-empty))
 
 pub first-not-rising-spec : {M : Type 1} → statement M
 first-not-rising-spec =
