@@ -1,9 +1,11 @@
-/* Reads a small regular table from C: values, a slope, a batch that is refused in the middle, and a grid that is turned away.
+/* Reads a small regular table from C: values, slopes, a batch that is refused in the middle, and grids that are turned away.
  * Prints what it finds, and exits with 1 where that is not what docs/SPECIFICATION.md says. */
 #include <math.h>
 #include <stdio.h>
 
 #include "../include/veltzuma.h"
+
+enum { CUBIC, STRAIGHT, HELD };
 
 static int wrong = 0;
 
@@ -24,21 +26,26 @@ int main(void) {
     double value[1] = {0.0}, slope[1] = {0.0};
 #define GRID 1, counts, 1, starts, 1, steps, 1, vals, 4
 
-    expect("number at 1.5", veltzuma_regular_interp_one(GRID, false, inside, 1, refusal, 2, value, 1), 0);
+    expect("number at 1.5", veltzuma_regular_interp_one(GRID, CUBIC, inside, 1, refusal, 2, value, 1), 0);
     expect("value at 1.5", value[0], 3.375);
-    expect("number of the slope", veltzuma_regular_interp_one_grad(GRID, false, inside, 1, refusal, 2, slope, 1), 0);
+    expect("number of the slope", veltzuma_regular_interp_one_grad(GRID, CUBIC, inside, 1, refusal, 2, slope, 1), 0);
     expect("slope at 1.5", slope[0], 6.25);
-    veltzuma_regular_interp_one(GRID, true, outside, 1, refusal, 2, value, 1);
+    veltzuma_regular_interp_one(GRID, STRAIGHT, outside, 1, refusal, 2, value, 1);
     expect("value at 4, straight", value[0], 52.0);
-    veltzuma_regular_interp_one(GRID, false, outside, 1, refusal, 2, value, 1);
+    veltzuma_regular_interp_one(GRID, CUBIC, outside, 1, refusal, 2, value, 1);
     expect("value at 4, cubic", value[0], 58.0);
-    expect("number of the place", veltzuma_regular_get_loc(GRID, outside, 1, refusal, 2, origins, 1, classes, 1), 0);
+    /* Held, the surface is level past the last node, and has the number that is stored there. */
+    expect("number at 4, held", veltzuma_regular_interp_one(GRID, HELD, outside, 1, refusal, 2, value, 1), 0);
+    expect("value at 4, held", value[0], 27.0);
+    veltzuma_regular_interp_one_grad(GRID, HELD, outside, 1, refusal, 2, slope, 1);
+    expect("slope at 4, held", slope[0], 0.0);
+    expect("number of the place", veltzuma_regular_get_loc(GRID, CUBIC, outside, 1, refusal, 2, origins, 1, classes, 1), 0);
     expect("origin at 4", (double)origins[0], 0);
     expect("class at 4", classes[0], 4);
 
     const double queries[3] = {1.5, INFINITY, 1.5};
     double out[3] = {-1.0, -2.0, -3.0};
-    expect("number of a batch", veltzuma_regular_interp(GRID, false, queries, 3, refusal, 2, out, 3), 8);
+    expect("number of a batch", veltzuma_regular_interp(GRID, CUBIC, queries, 3, refusal, 2, out, 3), 8);
     expect("its query", (double)refusal[0], 1);
     expect("its axis", (double)refusal[1], 0);
     expect("entry before it", out[0], 3.375);
@@ -47,6 +54,7 @@ int main(void) {
 
     expect("number with a value missing", veltzuma_regular_new(1, counts, 1, starts, 1, steps, 1, vals, 3, refusal, 2), 3);
     expect("number with no counts", veltzuma_regular_new(1, NULL, 0, starts, 1, steps, 1, vals, 4, refusal, 2), 3);
-    expect("number with no room for a value", veltzuma_regular_interp_one(GRID, false, inside, 1, refusal, 2, NULL, 0), 7);
+    expect("number in a mode without a name", veltzuma_regular_interp_one(GRID, HELD + 1, inside, 1, refusal, 2, value, 1), 3);
+    expect("number with no room for a value", veltzuma_regular_interp_one(GRID, CUBIC, inside, 1, refusal, 2, NULL, 0), 7);
     return wrong;
 }

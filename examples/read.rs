@@ -1,5 +1,5 @@
-// Reads a small rectilinear table from Rust by the calls for C: a value, its gradient, and a node. Exits with 1 where an answer is
-// not what docs/SPECIFICATION.md says.
+// Reads a small rectilinear table from Rust by the calls for C: values and gradients at a node, between nodes, and held past an end.
+// Exits with 1 where an answer is not what docs/SPECIFICATION.md says.
 #[link(name = "capi", kind = "static")]
 unsafe extern "C" {
     fn veltzuma_rectilinear_interp_one(
@@ -10,7 +10,7 @@ unsafe extern "C" {
         axes_len: usize,
         vals: *const f64,
         vals_len: usize,
-        straight: bool,
+        mode: u8,
         x: *const f64,
         x_len: usize,
         refusal: *mut usize,
@@ -26,7 +26,7 @@ unsafe extern "C" {
         axes_len: usize,
         vals: *const f64,
         vals_len: usize,
-        straight: bool,
+        mode: u8,
         x: *const f64,
         x_len: usize,
         refusal: *mut usize,
@@ -36,6 +36,9 @@ unsafe extern "C" {
     ) -> u8;
 }
 
+const CUBIC: u8 = 0;
+const HELD: u8 = 2;
+
 fn main() {
     // Two axes; the values are x + 10 y, which the cubic gives back.
     let (x, y) = ([0.0, 1.0, 2.0, 4.0, 7.0], [0.0, 1.0, 2.0, 3.0]);
@@ -43,23 +46,29 @@ fn main() {
     let axes: Vec<f64> = x.iter().chain(&y).copied().collect();
     let vals: Vec<f64> = x.iter().flat_map(|a| y.iter().map(move |b| a + 10.0 * b)).collect();
     let mut wrong = false;
-    for (query, expected) in [([4.0, 2.0], 24.0), ([3.0, 1.5], 18.0)] {
-        let (mut refusal, mut value, mut gradient) = ([9usize; 2], [0.0f64], [0.0f64; 2]);
+    let cases = [
+        (CUBIC, [4.0, 2.0], 24.0, [1.0, 10.0]),
+        (CUBIC, [3.0, 1.5], 18.0, [1.0, 10.0]),
+        // Past the last x, 7, the surface is level along x.
+        (HELD, [9.0, 1.5], 22.0, [0.0, 10.0]),
+    ];
+    for (mode, query, expected, slopes) in cases {
+        let (mut refusal, mut value, mut gradient) = ([9usize; 2], [0.0f64], [9.0f64; 2]);
         let number = unsafe {
             veltzuma_rectilinear_interp_one(
-                2, counts.as_ptr(), 2, axes.as_ptr(), axes.len(), vals.as_ptr(), vals.len(), false, query.as_ptr(), 2,
+                2, counts.as_ptr(), 2, axes.as_ptr(), axes.len(), vals.as_ptr(), vals.len(), mode, query.as_ptr(), 2,
                 refusal.as_mut_ptr(), 2, value.as_mut_ptr(), 1,
             )
         };
-        let slopes = unsafe {
+        let second = unsafe {
             veltzuma_rectilinear_interp_one_grad(
-                2, counts.as_ptr(), 2, axes.as_ptr(), axes.len(), vals.as_ptr(), vals.len(), false, query.as_ptr(), 2,
+                2, counts.as_ptr(), 2, axes.as_ptr(), axes.len(), vals.as_ptr(), vals.len(), mode, query.as_ptr(), 2,
                 refusal.as_mut_ptr(), 2, gradient.as_mut_ptr(), 2,
             )
         };
-        println!("at {query:?}: number {number}, value {}, gradient {gradient:?}", value[0]);
-        wrong |= number != 0 || slopes != 0 || (value[0] - expected).abs() > 1e-12;
-        wrong |= (gradient[0] - 1.0).abs() > 1e-12 || (gradient[1] - 10.0).abs() > 1e-12;
+        println!("mode {mode} at {query:?}: number {number}, value {}, gradient {gradient:?}", value[0]);
+        wrong |= number != 0 || second != 0 || (value[0] - expected).abs() > 1e-12;
+        wrong |= (gradient[0] - slopes[0]).abs() > 1e-12 || (gradient[1] - slopes[1]).abs() > 1e-12;
     }
     std::process::exit(wrong as i32);
 }

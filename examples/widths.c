@@ -4,6 +4,8 @@
 
 #include "../include/veltzuma.h"
 
+enum { CUBIC, STRAIGHT };
+
 int main(void) {
     const size_t counts[1] = {4};
     const double starts[1] = {0.0}, steps[1] = {1.0}, vals[4] = {0.0, 1.0, 8.0, 27.0}, x[1] = {1.5}, tenth[1] = {0.1};
@@ -13,20 +15,20 @@ int main(void) {
     float value_f32[1] = {0.0f};
     int wrong = 0;
 
-    wrong |= veltzuma_regular_interp_one(1, counts, 1, starts, 1, steps, 1, vals, 4, false, x, 1, refusal, 2, value, 1) != 0;
-    wrong |= veltzuma_regular_interp_one_f32(1, counts, 1, starts_f32, 1, steps_f32, 1, vals_f32, 4, false, x_f32, 1, refusal, 2, value_f32, 1) != 0;
+    wrong |= veltzuma_regular_interp_one(1, counts, 1, starts, 1, steps, 1, vals, 4, CUBIC, x, 1, refusal, 2, value, 1) != 0;
+    wrong |= veltzuma_regular_interp_one_f32(1, counts, 1, starts_f32, 1, steps_f32, 1, vals_f32, 4, CUBIC, x_f32, 1, refusal, 2, value_f32, 1) != 0;
     printf("value at 1.5, double and float       %.17g %.9g\n", value[0], (double)value_f32[0]);
     wrong |= value[0] != 3.375 || value_f32[0] != 3.375f;
 
-    wrong |= veltzuma_regular_interp_one(1, counts, 1, starts, 1, steps, 1, vals, 4, false, tenth, 1, refusal, 2, value, 1) != 0;
-    wrong |= veltzuma_regular_interp_one_f32(1, counts, 1, starts_f32, 1, steps_f32, 1, vals_f32, 4, false, tenth_f32, 1, refusal, 2, value_f32, 1) != 0;
+    wrong |= veltzuma_regular_interp_one(1, counts, 1, starts, 1, steps, 1, vals, 4, CUBIC, tenth, 1, refusal, 2, value, 1) != 0;
+    wrong |= veltzuma_regular_interp_one_f32(1, counts, 1, starts_f32, 1, steps_f32, 1, vals_f32, 4, CUBIC, tenth_f32, 1, refusal, 2, value_f32, 1) != 0;
     printf("value at 0.1, double and float       %.17g %.9g\n", value[0], (double)value_f32[0]);
     wrong |= value[0] == (double)value_f32[0];
 
     /* 2^63 has no place in either width; 2^63 - 2^39 is the float below it. */
     const float far_f32[3] = {1.5f, 9223371487098961920.0f, 9223372036854775808.0f};
     float out_f32[3] = {-1.0f, -2.0f, -3.0f};
-    uint8_t number = veltzuma_regular_interp_f32(1, counts, 1, starts_f32, 1, steps_f32, 1, vals_f32, 4, true, far_f32, 3, refusal, 2, out_f32, 3);
+    uint8_t number = veltzuma_regular_interp_f32(1, counts, 1, starts_f32, 1, steps_f32, 1, vals_f32, 4, STRAIGHT, far_f32, 3, refusal, 2, out_f32, 3);
     printf("batch of float, number and query     %u %zu\n", number, refusal[0]);
     wrong |= number != 8 || refusal[0] != 2 || refusal[1] != 0 || out_f32[0] != 3.375f || out_f32[1] == -2.0f || out_f32[2] != -3.0f;
     return wrong;

@@ -6,7 +6,7 @@
  * Every call takes any input. A slice is a pointer and a length in entries, and may have any length; a null pointer with length 0
  * is an empty slice, a null pointer with another length is not allowed. The slices of one call must not overlap. Nothing is kept
  * after a call returns, nothing is allocated, and calls may run at the same time on several threads. Pointers are aligned for their
- * type, and a bool is 0 or 1. The floating-point environment is the one that a program starts with: round to nearest, subnormals kept.
+ * type. The floating-point environment is the one that a program starts with: round to nearest, subnormals kept.
  *
  * A call returns one of these numbers:
  *
@@ -14,7 +14,7 @@
  *   1  axis count not 1 to 4
  *   2  an axis over 4,096 entries, or a product of the counts over 1,048,576
  *   3  a length does not match: vals is not the product of the counts, axes is not their sum, or counts, starts, steps or x is
- *      shorter than the axis count (1 and 2 look only at the counts that are there)
+ *      shorter than the axis count (1 and 2 look only at the counts that are there); or mode is above 2
  *   4  an axis under 4 entries                                                     axis: the lowest such
  *   5  regular: a step is not above 0; rectilinear: entry 1 is not above entry 0   axis: the lowest such
  *   6  rectilinear: an entry is NaN or below the one before it                     axis: the lowest such
@@ -32,13 +32,19 @@
  *   rectilinear  axes holds all entries of axis 0, then of axis 1, and so on
  *   vals         one number for each point, the last axis fastest
  *
- * straight is the original's linearize_extrapolation: outside the grid the surface follows a straight line instead of the cubic.
+ * mode is what is followed past the ends of an axis. No check of a grid depends on it, so new takes none.
+ *   0  cubic     the cubic itself
+ *   1  straight  a straight line, as with the original's linearize_extrapolation
+ *   2  held      level from the end on: the end's node stands in place of the query
+ * A number above 2 names no mode, and nothing is answered in a mode that nobody named: it is refused with 3, looked at together
+ * with slices that are too short. This 3 is ours, and not the mismatch of table 2.2 in docs/SPECIFICATION.md.
+ *
  * A class is 0 None, 1 InsideLow, 2 OutsideLow, 3 InsideHigh, 4 OutsideHigh.
  * The queries of a batch are joined columns: the coordinates of all queries on axis 0, then on axis 1. */
 #ifndef VELTZUMA_H
 #define VELTZUMA_H
 
-#include <stdbool.h>
+#include <stdbool.h> /* for callers that say false and true for the modes 0 and 1 */
 #include <stddef.h>
 #include <stdint.h>
 
@@ -59,34 +65,35 @@ uint8_t veltzuma_regular_new(VELTZUMA_REGULAR, size_t *refusal, size_t refusal_l
 uint8_t veltzuma_rectilinear_new(VELTZUMA_RECTILINEAR, size_t *refusal, size_t refusal_len);
 
 /* The place of a query: the first index of its block of four, and its class, on each axis. x: axis_count coordinates. */
-uint8_t veltzuma_regular_get_loc(VELTZUMA_REGULAR, const double *x, size_t x_len, size_t *refusal, size_t refusal_len,
-                                 size_t *origins, size_t origins_len, uint8_t *classes, size_t classes_len);
-uint8_t veltzuma_rectilinear_get_loc(VELTZUMA_RECTILINEAR, const double *x, size_t x_len, size_t *refusal, size_t refusal_len,
-                                     size_t *origins, size_t origins_len, uint8_t *classes, size_t classes_len);
+uint8_t veltzuma_regular_get_loc(VELTZUMA_REGULAR, uint8_t mode, const double *x, size_t x_len, size_t *refusal,
+                                 size_t refusal_len, size_t *origins, size_t origins_len, uint8_t *classes, size_t classes_len);
+uint8_t veltzuma_rectilinear_get_loc(VELTZUMA_RECTILINEAR, uint8_t mode, const double *x, size_t x_len, size_t *refusal,
+                                     size_t refusal_len, size_t *origins, size_t origins_len, uint8_t *classes,
+                                     size_t classes_len);
 
 /* The value at a query. value: 1 entry. */
-uint8_t veltzuma_regular_interp_one(VELTZUMA_REGULAR, bool straight, const double *x, size_t x_len, size_t *refusal,
+uint8_t veltzuma_regular_interp_one(VELTZUMA_REGULAR, uint8_t mode, const double *x, size_t x_len, size_t *refusal,
                                     size_t refusal_len, double *value, size_t value_len);
-uint8_t veltzuma_rectilinear_interp_one(VELTZUMA_RECTILINEAR, bool straight, const double *x, size_t x_len, size_t *refusal,
+uint8_t veltzuma_rectilinear_interp_one(VELTZUMA_RECTILINEAR, uint8_t mode, const double *x, size_t x_len, size_t *refusal,
                                         size_t refusal_len, double *value, size_t value_len);
 
 /* The gradient at a query. gradient: axis_count entries. */
-uint8_t veltzuma_regular_interp_one_grad(VELTZUMA_REGULAR, bool straight, const double *x, size_t x_len, size_t *refusal,
+uint8_t veltzuma_regular_interp_one_grad(VELTZUMA_REGULAR, uint8_t mode, const double *x, size_t x_len, size_t *refusal,
                                          size_t refusal_len, double *gradient, size_t gradient_len);
-uint8_t veltzuma_rectilinear_interp_one_grad(VELTZUMA_RECTILINEAR, bool straight, const double *x, size_t x_len,
-                                             size_t *refusal, size_t refusal_len, double *gradient, size_t gradient_len);
+uint8_t veltzuma_rectilinear_interp_one_grad(VELTZUMA_RECTILINEAR, uint8_t mode, const double *x, size_t x_len, size_t *refusal,
+                                             size_t refusal_len, double *gradient, size_t gradient_len);
 
 /* The values of a batch of out_len queries. queries: axis_count * out_len coordinates. */
-uint8_t veltzuma_regular_interp(VELTZUMA_REGULAR, bool straight, const double *queries, size_t queries_len, size_t *refusal,
+uint8_t veltzuma_regular_interp(VELTZUMA_REGULAR, uint8_t mode, const double *queries, size_t queries_len, size_t *refusal,
                                 size_t refusal_len, double *out, size_t out_len);
-uint8_t veltzuma_rectilinear_interp(VELTZUMA_RECTILINEAR, bool straight, const double *queries, size_t queries_len,
+uint8_t veltzuma_rectilinear_interp(VELTZUMA_RECTILINEAR, uint8_t mode, const double *queries, size_t queries_len,
                                     size_t *refusal, size_t refusal_len, double *out, size_t out_len);
 
 /* The gradients of a batch of out_len / axis_count queries, which axis_count must divide: component d of query i is at
  * d * (out_len / axis_count) + i. */
-uint8_t veltzuma_regular_interp_grad(VELTZUMA_REGULAR, bool straight, const double *queries, size_t queries_len,
-                                     size_t *refusal, size_t refusal_len, double *out, size_t out_len);
-uint8_t veltzuma_rectilinear_interp_grad(VELTZUMA_RECTILINEAR, bool straight, const double *queries, size_t queries_len,
+uint8_t veltzuma_regular_interp_grad(VELTZUMA_REGULAR, uint8_t mode, const double *queries, size_t queries_len, size_t *refusal,
+                                     size_t refusal_len, double *out, size_t out_len);
+uint8_t veltzuma_rectilinear_interp_grad(VELTZUMA_RECTILINEAR, uint8_t mode, const double *queries, size_t queries_len,
                                          size_t *refusal, size_t refusal_len, double *out, size_t out_len);
 
 /* The same calls in single precision, float for double, in libcapi_f32.a. Each operation is rounded in that width. Both
@@ -102,30 +109,31 @@ uint8_t veltzuma_rectilinear_interp_grad(VELTZUMA_RECTILINEAR, bool straight, co
 uint8_t veltzuma_regular_new_f32(VELTZUMA_REGULAR_F32, size_t *refusal, size_t refusal_len);
 uint8_t veltzuma_rectilinear_new_f32(VELTZUMA_RECTILINEAR_F32, size_t *refusal, size_t refusal_len);
 
-uint8_t veltzuma_regular_get_loc_f32(VELTZUMA_REGULAR_F32, const float *x, size_t x_len, size_t *refusal, size_t refusal_len,
-                                     size_t *origins, size_t origins_len, uint8_t *classes, size_t classes_len);
-uint8_t veltzuma_rectilinear_get_loc_f32(VELTZUMA_RECTILINEAR_F32, const float *x, size_t x_len, size_t *refusal,
+uint8_t veltzuma_regular_get_loc_f32(VELTZUMA_REGULAR_F32, uint8_t mode, const float *x, size_t x_len, size_t *refusal,
+                                     size_t refusal_len, size_t *origins, size_t origins_len, uint8_t *classes,
+                                     size_t classes_len);
+uint8_t veltzuma_rectilinear_get_loc_f32(VELTZUMA_RECTILINEAR_F32, uint8_t mode, const float *x, size_t x_len, size_t *refusal,
                                          size_t refusal_len, size_t *origins, size_t origins_len, uint8_t *classes,
                                          size_t classes_len);
 
-uint8_t veltzuma_regular_interp_one_f32(VELTZUMA_REGULAR_F32, bool straight, const float *x, size_t x_len, size_t *refusal,
+uint8_t veltzuma_regular_interp_one_f32(VELTZUMA_REGULAR_F32, uint8_t mode, const float *x, size_t x_len, size_t *refusal,
                                         size_t refusal_len, float *value, size_t value_len);
-uint8_t veltzuma_rectilinear_interp_one_f32(VELTZUMA_RECTILINEAR_F32, bool straight, const float *x, size_t x_len,
+uint8_t veltzuma_rectilinear_interp_one_f32(VELTZUMA_RECTILINEAR_F32, uint8_t mode, const float *x, size_t x_len,
                                             size_t *refusal, size_t refusal_len, float *value, size_t value_len);
 
-uint8_t veltzuma_regular_interp_one_grad_f32(VELTZUMA_REGULAR_F32, bool straight, const float *x, size_t x_len, size_t *refusal,
+uint8_t veltzuma_regular_interp_one_grad_f32(VELTZUMA_REGULAR_F32, uint8_t mode, const float *x, size_t x_len, size_t *refusal,
                                              size_t refusal_len, float *gradient, size_t gradient_len);
-uint8_t veltzuma_rectilinear_interp_one_grad_f32(VELTZUMA_RECTILINEAR_F32, bool straight, const float *x, size_t x_len,
+uint8_t veltzuma_rectilinear_interp_one_grad_f32(VELTZUMA_RECTILINEAR_F32, uint8_t mode, const float *x, size_t x_len,
                                                  size_t *refusal, size_t refusal_len, float *gradient, size_t gradient_len);
 
-uint8_t veltzuma_regular_interp_f32(VELTZUMA_REGULAR_F32, bool straight, const float *queries, size_t queries_len,
+uint8_t veltzuma_regular_interp_f32(VELTZUMA_REGULAR_F32, uint8_t mode, const float *queries, size_t queries_len,
                                     size_t *refusal, size_t refusal_len, float *out, size_t out_len);
-uint8_t veltzuma_rectilinear_interp_f32(VELTZUMA_RECTILINEAR_F32, bool straight, const float *queries, size_t queries_len,
+uint8_t veltzuma_rectilinear_interp_f32(VELTZUMA_RECTILINEAR_F32, uint8_t mode, const float *queries, size_t queries_len,
                                         size_t *refusal, size_t refusal_len, float *out, size_t out_len);
 
-uint8_t veltzuma_regular_interp_grad_f32(VELTZUMA_REGULAR_F32, bool straight, const float *queries, size_t queries_len,
+uint8_t veltzuma_regular_interp_grad_f32(VELTZUMA_REGULAR_F32, uint8_t mode, const float *queries, size_t queries_len,
                                          size_t *refusal, size_t refusal_len, float *out, size_t out_len);
-uint8_t veltzuma_rectilinear_interp_grad_f32(VELTZUMA_RECTILINEAR_F32, bool straight, const float *queries, size_t queries_len,
+uint8_t veltzuma_rectilinear_interp_grad_f32(VELTZUMA_RECTILINEAR_F32, uint8_t mode, const float *queries, size_t queries_len,
                                              size_t *refusal, size_t refusal_len, float *out, size_t out_len);
 
 #ifdef __cplusplus

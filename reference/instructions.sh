@@ -23,8 +23,12 @@ per_query() {
 }
 printf '%-37s %10s %10s %10s\n' "instructions per query" Rust ours ours/Rust
 for case in "$@"; do
-    rust=$(per_query rust "$case")
     ours=$(per_query ours "$case")
-    ratio=$(echo "$ours $rust" | awk '{ printf "%.3f", $1 / $2 }')
+    # Held is ours alone.
+    rust=- ratio=-
+    case $case in *-held) ;; *)
+        rust=$(per_query rust "$case")
+        ratio=$(echo "$ours $rust" | awk '{ printf "%.3f", $1 / $2 }') ;;
+    esac
     printf '%-37s %10s %10s %10s\n' "$case" "$rust" "$ours" "$ratio"
 done

@@ -61,12 +61,16 @@ impl<T: Width> Axis<T> {
     }
 }
 
+/// The two modes of the Rust, by the numbers of the C calls: its linearize_extrapolation off and on.
+pub const CUBIC: u8 = 0;
+pub const STRAIGHT: u8 = 1;
+
 /// A grid in the form that the C calls take. Fields of the other kind stay empty.
 #[derive(Clone, Debug)]
 pub struct Grid<T> {
     pub rectilinear: bool,
-    /// The Rust's linearize_extrapolation.
-    pub straight: bool,
+    /// The Rust is asked in STRAIGHT where it is that, and in CUBIC where it is anything else.
+    pub mode: u8,
     pub counts: Vec<usize>,
     pub starts: Vec<T>,
     pub steps: Vec<T>,
@@ -74,10 +78,10 @@ pub struct Grid<T> {
     pub values: Vec<T>,
 }
 impl<T: Width> Grid<T> {
-    pub fn new(axes: &[Axis<T>], values: Vec<T>, straight: bool) -> Grid<T> {
+    pub fn new(axes: &[Axis<T>], values: Vec<T>, mode: u8) -> Grid<T> {
         let mut g = Grid {
             rectilinear: matches!(axes[0], Axis::Rectilinear(_)),
-            straight,
+            mode,
             counts: axes.iter().map(Axis::n).collect(),
             starts: vec![],
             steps: vec![],
@@ -447,7 +451,7 @@ pub fn faulty<T: Width>(r: &mut Rng, rectilinear: bool, many: usize, count: &mut
     }
     let len = (product(&axes) as i64 + more_values).max(0) as usize;
     let values = values(r, "short", len);
-    let mut g = Grid::new(&axes, values, r.coin());
+    let mut g = Grid::new(&axes, values, r.coin() as u8);
     if rectilinear {
         let len = (g.joined.len() as i64 + more_joined) as usize;
         g.joined.resize(len, T::of(99.0));

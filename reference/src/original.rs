@@ -1,7 +1,8 @@
 //! The original Rust behind one face for all axis counts. Used by `corpus` and `compare`.
-use crate::cases::Grid;
+use crate::cases::{Grid, STRAIGHT};
 use crate::width::Width;
 use interpn::multicubic::{MulticubicRectilinear, MulticubicRegular};
+use std::hint::black_box;
 
 pub type Message = &'static str;
 pub const UNPLACEABLE: Message = "Unrepresentable coordinate value";
@@ -50,9 +51,11 @@ reader!(MulticubicRectilinear);
 /// Makes the grid with `new` and hands it on, or the message with which `new` refuses it.
 pub fn read<T: Width, R>(g: &Grid<T>, then: impl FnOnce(Result<&dyn Reader<T>, Message>) -> R) -> R {
     fn sized<const N: usize, T: Width, R>(g: &Grid<T>, then: impl FnOnce(Result<&dyn Reader<T>, Message>) -> R) -> R {
+        // A bool that comes from elsewhere, so that the Rust is not compiled for a comparison of numbers.
+        let straight = black_box(g.mode == STRAIGHT);
         if g.rectilinear {
             let parts = g.cut();
-            match MulticubicRectilinear::<T, N>::new(parts[..].try_into().unwrap(), &g.values, g.straight) {
+            match MulticubicRectilinear::<T, N>::new(parts[..].try_into().unwrap(), &g.values, straight) {
                 Ok(reader) => then(Ok(&reader)),
                 Err(message) => then(Err(message)),
             }
@@ -60,7 +63,7 @@ pub fn read<T: Width, R>(g: &Grid<T>, then: impl FnOnce(Result<&dyn Reader<T>, M
             let dims: [usize; N] = g.counts[..].try_into().unwrap();
             let starts: [T; N] = g.starts[..].try_into().unwrap();
             let steps: [T; N] = g.steps[..].try_into().unwrap();
-            match MulticubicRegular::<T, N>::new(dims, starts, steps, &g.values, g.straight) {
+            match MulticubicRegular::<T, N>::new(dims, starts, steps, &g.values, straight) {
                 Ok(reader) => then(Ok(&reader)),
                 Err(message) => then(Err(message)),
             }

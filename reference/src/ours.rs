@@ -29,35 +29,35 @@ macro_rules! calls {
                 #[link_name = concat!("veltzuma_regular_get_loc", $suffix)]
                 fn regular_get_loc(
                     axis_count: usize, counts: *const usize, counts_len: usize, starts: *const $T, starts_len: usize,
-                    steps: *const $T, steps_len: usize, vals: *const $T, vals_len: usize, x: *const $T, x_len: usize,
-                    refusal: *mut usize, refusal_len: usize, origins: *mut usize, origins_len: usize,
-                    classes: *mut u8, classes_len: usize,
+                    steps: *const $T, steps_len: usize, vals: *const $T, vals_len: usize, mode: u8,
+                    x: *const $T, x_len: usize, refusal: *mut usize, refusal_len: usize,
+                    origins: *mut usize, origins_len: usize, classes: *mut u8, classes_len: usize,
                 ) -> u8;
                 #[link_name = concat!("veltzuma_regular_interp_one", $suffix)]
                 fn regular_interp_one(
                     axis_count: usize, counts: *const usize, counts_len: usize, starts: *const $T, starts_len: usize,
-                    steps: *const $T, steps_len: usize, vals: *const $T, vals_len: usize, straight: bool,
+                    steps: *const $T, steps_len: usize, vals: *const $T, vals_len: usize, mode: u8,
                     x: *const $T, x_len: usize, refusal: *mut usize, refusal_len: usize,
                     value: *mut $T, value_len: usize,
                 ) -> u8;
                 #[link_name = concat!("veltzuma_regular_interp_one_grad", $suffix)]
                 fn regular_interp_one_grad(
                     axis_count: usize, counts: *const usize, counts_len: usize, starts: *const $T, starts_len: usize,
-                    steps: *const $T, steps_len: usize, vals: *const $T, vals_len: usize, straight: bool,
+                    steps: *const $T, steps_len: usize, vals: *const $T, vals_len: usize, mode: u8,
                     x: *const $T, x_len: usize, refusal: *mut usize, refusal_len: usize,
                     gradient: *mut $T, gradient_len: usize,
                 ) -> u8;
                 #[link_name = concat!("veltzuma_regular_interp", $suffix)]
                 fn regular_interp(
                     axis_count: usize, counts: *const usize, counts_len: usize, starts: *const $T, starts_len: usize,
-                    steps: *const $T, steps_len: usize, vals: *const $T, vals_len: usize, straight: bool,
+                    steps: *const $T, steps_len: usize, vals: *const $T, vals_len: usize, mode: u8,
                     queries: *const $T, queries_len: usize, refusal: *mut usize, refusal_len: usize,
                     out: *mut $T, out_len: usize,
                 ) -> u8;
                 #[link_name = concat!("veltzuma_regular_interp_grad", $suffix)]
                 fn regular_interp_grad(
                     axis_count: usize, counts: *const usize, counts_len: usize, starts: *const $T, starts_len: usize,
-                    steps: *const $T, steps_len: usize, vals: *const $T, vals_len: usize, straight: bool,
+                    steps: *const $T, steps_len: usize, vals: *const $T, vals_len: usize, mode: u8,
                     queries: *const $T, queries_len: usize, refusal: *mut usize, refusal_len: usize,
                     out: *mut $T, out_len: usize,
                 ) -> u8;
@@ -69,32 +69,32 @@ macro_rules! calls {
                 #[link_name = concat!("veltzuma_rectilinear_get_loc", $suffix)]
                 fn rectilinear_get_loc(
                     axis_count: usize, counts: *const usize, counts_len: usize, axes: *const $T, axes_len: usize,
-                    vals: *const $T, vals_len: usize, x: *const $T, x_len: usize,
+                    vals: *const $T, vals_len: usize, mode: u8, x: *const $T, x_len: usize,
                     refusal: *mut usize, refusal_len: usize, origins: *mut usize, origins_len: usize,
                     classes: *mut u8, classes_len: usize,
                 ) -> u8;
                 #[link_name = concat!("veltzuma_rectilinear_interp_one", $suffix)]
                 fn rectilinear_interp_one(
                     axis_count: usize, counts: *const usize, counts_len: usize, axes: *const $T, axes_len: usize,
-                    vals: *const $T, vals_len: usize, straight: bool, x: *const $T, x_len: usize,
+                    vals: *const $T, vals_len: usize, mode: u8, x: *const $T, x_len: usize,
                     refusal: *mut usize, refusal_len: usize, value: *mut $T, value_len: usize,
                 ) -> u8;
                 #[link_name = concat!("veltzuma_rectilinear_interp_one_grad", $suffix)]
                 fn rectilinear_interp_one_grad(
                     axis_count: usize, counts: *const usize, counts_len: usize, axes: *const $T, axes_len: usize,
-                    vals: *const $T, vals_len: usize, straight: bool, x: *const $T, x_len: usize,
+                    vals: *const $T, vals_len: usize, mode: u8, x: *const $T, x_len: usize,
                     refusal: *mut usize, refusal_len: usize, gradient: *mut $T, gradient_len: usize,
                 ) -> u8;
                 #[link_name = concat!("veltzuma_rectilinear_interp", $suffix)]
                 fn rectilinear_interp(
                     axis_count: usize, counts: *const usize, counts_len: usize, axes: *const $T, axes_len: usize,
-                    vals: *const $T, vals_len: usize, straight: bool, queries: *const $T, queries_len: usize,
+                    vals: *const $T, vals_len: usize, mode: u8, queries: *const $T, queries_len: usize,
                     refusal: *mut usize, refusal_len: usize, out: *mut $T, out_len: usize,
                 ) -> u8;
                 #[link_name = concat!("veltzuma_rectilinear_interp_grad", $suffix)]
                 fn rectilinear_interp_grad(
                     axis_count: usize, counts: *const usize, counts_len: usize, axes: *const $T, axes_len: usize,
-                    vals: *const $T, vals_len: usize, straight: bool, queries: *const $T, queries_len: usize,
+                    vals: *const $T, vals_len: usize, mode: u8, queries: *const $T, queries_len: usize,
                     refusal: *mut usize, refusal_len: usize, out: *mut $T, out_len: usize,
                 ) -> u8;
             }
@@ -120,15 +120,16 @@ macro_rules! calls {
                         if g.rectilinear {
                             rectilinear_get_loc(
                                 g.counts.len(), g.counts.as_ptr(), g.counts.len(), g.joined.as_ptr(), g.joined.len(),
-                                g.values.as_ptr(), g.values.len(), x.as_ptr(), x.len(), refusal.as_mut_ptr(), refusal.len(),
-                                origins.as_mut_ptr(), origins.len(), classes.as_mut_ptr(), classes.len(),
+                                g.values.as_ptr(), g.values.len(), g.mode, x.as_ptr(), x.len(),
+                                refusal.as_mut_ptr(), refusal.len(), origins.as_mut_ptr(), origins.len(),
+                                classes.as_mut_ptr(), classes.len(),
                             )
                         } else {
                             regular_get_loc(
                                 g.counts.len(), g.counts.as_ptr(), g.counts.len(), g.starts.as_ptr(), g.starts.len(),
-                                g.steps.as_ptr(), g.steps.len(), g.values.as_ptr(), g.values.len(), x.as_ptr(), x.len(),
-                                refusal.as_mut_ptr(), refusal.len(), origins.as_mut_ptr(), origins.len(),
-                                classes.as_mut_ptr(), classes.len(),
+                                g.steps.as_ptr(), g.steps.len(), g.values.as_ptr(), g.values.len(), g.mode,
+                                x.as_ptr(), x.len(), refusal.as_mut_ptr(), refusal.len(),
+                                origins.as_mut_ptr(), origins.len(), classes.as_mut_ptr(), classes.len(),
                             )
                         }
                     }
@@ -138,13 +139,13 @@ macro_rules! calls {
                         if g.rectilinear {
                             rectilinear_interp_one(
                                 g.counts.len(), g.counts.as_ptr(), g.counts.len(), g.joined.as_ptr(), g.joined.len(),
-                                g.values.as_ptr(), g.values.len(), g.straight, x.as_ptr(), x.len(),
+                                g.values.as_ptr(), g.values.len(), g.mode, x.as_ptr(), x.len(),
                                 refusal.as_mut_ptr(), refusal.len(), value.as_mut_ptr(), value.len(),
                             )
                         } else {
                             regular_interp_one(
                                 g.counts.len(), g.counts.as_ptr(), g.counts.len(), g.starts.as_ptr(), g.starts.len(),
-                                g.steps.as_ptr(), g.steps.len(), g.values.as_ptr(), g.values.len(), g.straight,
+                                g.steps.as_ptr(), g.steps.len(), g.values.as_ptr(), g.values.len(), g.mode,
                                 x.as_ptr(), x.len(), refusal.as_mut_ptr(), refusal.len(), value.as_mut_ptr(), value.len(),
                             )
                         }
@@ -155,13 +156,13 @@ macro_rules! calls {
                         if g.rectilinear {
                             rectilinear_interp_one_grad(
                                 g.counts.len(), g.counts.as_ptr(), g.counts.len(), g.joined.as_ptr(), g.joined.len(),
-                                g.values.as_ptr(), g.values.len(), g.straight, x.as_ptr(), x.len(),
+                                g.values.as_ptr(), g.values.len(), g.mode, x.as_ptr(), x.len(),
                                 refusal.as_mut_ptr(), refusal.len(), gradient.as_mut_ptr(), gradient.len(),
                             )
                         } else {
                             regular_interp_one_grad(
                                 g.counts.len(), g.counts.as_ptr(), g.counts.len(), g.starts.as_ptr(), g.starts.len(),
-                                g.steps.as_ptr(), g.steps.len(), g.values.as_ptr(), g.values.len(), g.straight,
+                                g.steps.as_ptr(), g.steps.len(), g.values.as_ptr(), g.values.len(), g.mode,
                                 x.as_ptr(), x.len(), refusal.as_mut_ptr(), refusal.len(),
                                 gradient.as_mut_ptr(), gradient.len(),
                             )
@@ -173,13 +174,13 @@ macro_rules! calls {
                         if g.rectilinear {
                             rectilinear_interp(
                                 g.counts.len(), g.counts.as_ptr(), g.counts.len(), g.joined.as_ptr(), g.joined.len(),
-                                g.values.as_ptr(), g.values.len(), g.straight, queries.as_ptr(), queries.len(),
+                                g.values.as_ptr(), g.values.len(), g.mode, queries.as_ptr(), queries.len(),
                                 refusal.as_mut_ptr(), refusal.len(), out.as_mut_ptr(), out.len(),
                             )
                         } else {
                             regular_interp(
                                 g.counts.len(), g.counts.as_ptr(), g.counts.len(), g.starts.as_ptr(), g.starts.len(),
-                                g.steps.as_ptr(), g.steps.len(), g.values.as_ptr(), g.values.len(), g.straight,
+                                g.steps.as_ptr(), g.steps.len(), g.values.as_ptr(), g.values.len(), g.mode,
                                 queries.as_ptr(), queries.len(), refusal.as_mut_ptr(), refusal.len(),
                                 out.as_mut_ptr(), out.len(),
                             )
@@ -191,13 +192,13 @@ macro_rules! calls {
                         if g.rectilinear {
                             rectilinear_interp_grad(
                                 g.counts.len(), g.counts.as_ptr(), g.counts.len(), g.joined.as_ptr(), g.joined.len(),
-                                g.values.as_ptr(), g.values.len(), g.straight, queries.as_ptr(), queries.len(),
+                                g.values.as_ptr(), g.values.len(), g.mode, queries.as_ptr(), queries.len(),
                                 refusal.as_mut_ptr(), refusal.len(), out.as_mut_ptr(), out.len(),
                             )
                         } else {
                             regular_interp_grad(
                                 g.counts.len(), g.counts.as_ptr(), g.counts.len(), g.starts.as_ptr(), g.starts.len(),
-                                g.steps.as_ptr(), g.steps.len(), g.values.as_ptr(), g.values.len(), g.straight,
+                                g.steps.as_ptr(), g.steps.len(), g.values.as_ptr(), g.values.len(), g.mode,
                                 queries.as_ptr(), queries.len(), refusal.as_mut_ptr(), refusal.len(),
                                 out.as_mut_ptr(), out.len(),
                             )

@@ -3,7 +3,7 @@
 ghost use mathlib.Core.Path.{_≡_};
 ghost use lib.Ieee.{binary64};
 ghost use Rattle.multicubic.specs.declared.EdgeMode.{EdgeMode};
-ghost use Rattle.slices.specs.Slices.{modeOf};
+ghost use Rattle.slices.specs.Lent.{setBy};
 ghost use Rattle.regular_lent.specs.Regular.{regularFrom};
 ghost use Rattle.rectilinear_lent.specs.Rectilinear.{rectilinearFrom};
 ghost use Rattle.capi.specs.Calls.{newLeaves, getLocLeaves, interpOneLeaves, interpOneGradLeaves, interpLeaves, interpGradLeaves};
@@ -12,6 +12,8 @@ use slices::check_query_slices;
 use slices::check_slices;
 use slices::counts_from;
 use slices::least;
+use slices::mode_of;
+use slices::named;
 use slices::query_from;
 use slices::shortest_of;
 use told::tell;
@@ -49,19 +51,20 @@ pub extern "C" fn veltzuma_regular_get_loc(
     starts: &[f64],
     steps: &[f64],
     vals: &[f64],
+    mode: u8,
     x: &[f64],
     refusal: &mut [usize],
     origins: &mut [usize],
     classes: &mut [u8],
 ) -> u8
     ensures { λ r. ⌜
-        ((mode : EdgeMode) → record { number = r; refusal = now (refusal .exit); written = (now (origins .exit), now (classes .exit)) }
+        record { number = r; refusal = now (refusal .exit); written = (now (origins .exit), now (classes .exit)) }
         ≡ getLocLeaves
-        (regularFrom binary64 «axis_count» (now (counts .entry)) (now (starts .entry)) (now (steps .entry)) (now (vals .entry)) mode)
-        (now (x .entry)) (now (refusal .entry)) (now (origins .entry)) (now (classes .entry)))
+        (setBy (regularFrom binary64 «axis_count» (now (counts .entry)) (now (starts .entry)) (now (steps .entry)) (now (vals .entry))) mode)
+        (now (x .entry)) (now (refusal .entry)) (now (origins .entry)) (now (classes .entry))
         ⌝ }
 {
-    let shortest = shortest_of(counts.len(), starts.len(), steps.len());
+    let shortest = named(mode, shortest_of(counts.len(), starts.len(), steps.len()));
     let room = least(origins.len(), classes.len());
     let slices = check_query_slices(
         axis_count,
@@ -72,7 +75,8 @@ pub extern "C" fn veltzuma_regular_get_loc(
         axis_count,
     );
     let axes = axes_from(counts, starts, steps);
-    let answer = regular_lent::get_loc(slices, axis_count, axes, vals, query_from(x));
+    let at = query_from(x);
+    let answer = regular_lent::get_loc(slices, axis_count, axes, vals, mode_of(mode), at);
     tell_places(answer, axis_count, refusal, origins, classes)
 }
 
@@ -84,7 +88,7 @@ pub extern "C" fn veltzuma_regular_interp_one(
     starts: &[f64],
     steps: &[f64],
     vals: &[f64],
-    straight: bool,
+    mode: u8,
     x: &[f64],
     refusal: &mut [usize],
     value: &mut [f64],
@@ -92,16 +96,16 @@ pub extern "C" fn veltzuma_regular_interp_one(
     ensures { λ r. ⌜
         record { number = r; refusal = now (refusal .exit); written = now (value .exit) }
         ≡ interpOneLeaves binary64
-        (regularFrom binary64 «axis_count» (now (counts .entry)) (now (starts .entry)) (now (steps .entry)) (now (vals .entry)) (modeOf straight))
+        (setBy (regularFrom binary64 «axis_count» (now (counts .entry)) (now (starts .entry)) (now (steps .entry)) (now (vals .entry))) mode)
         (now (x .entry)) (now (refusal .entry)) (now (value .entry))
         ⌝ }
 {
-    let shortest = shortest_of(counts.len(), starts.len(), steps.len());
+    let shortest = named(mode, shortest_of(counts.len(), starts.len(), steps.len()));
     let room = value.len();
     let slices = check_query_slices(axis_count, shortest, x.len(), refusal.len(), room, 1);
     let axes = axes_from(counts, starts, steps);
     let at = query_from(x);
-    let answer = regular_lent::interp_one(slices, axis_count, axes, vals, straight, at);
+    let answer = regular_lent::interp_one(slices, axis_count, axes, vals, mode_of(mode), at);
     tell_value(answer, refusal, value)
 }
 
@@ -113,7 +117,7 @@ pub extern "C" fn veltzuma_regular_interp_one_grad(
     starts: &[f64],
     steps: &[f64],
     vals: &[f64],
-    straight: bool,
+    mode: u8,
     x: &[f64],
     refusal: &mut [usize],
     gradient: &mut [f64],
@@ -121,11 +125,11 @@ pub extern "C" fn veltzuma_regular_interp_one_grad(
     ensures { λ r. ⌜
         record { number = r; refusal = now (refusal .exit); written = now (gradient .exit) }
         ≡ interpOneGradLeaves binary64
-        (regularFrom binary64 «axis_count» (now (counts .entry)) (now (starts .entry)) (now (steps .entry)) (now (vals .entry)) (modeOf straight))
+        (setBy (regularFrom binary64 «axis_count» (now (counts .entry)) (now (starts .entry)) (now (steps .entry)) (now (vals .entry))) mode)
         (now (x .entry)) (now (refusal .entry)) (now (gradient .entry))
         ⌝ }
 {
-    let shortest = shortest_of(counts.len(), starts.len(), steps.len());
+    let shortest = named(mode, shortest_of(counts.len(), starts.len(), steps.len()));
     let room = gradient.len();
     let slices = check_query_slices(
         axis_count,
@@ -137,7 +141,7 @@ pub extern "C" fn veltzuma_regular_interp_one_grad(
     );
     let axes = axes_from(counts, starts, steps);
     let at = query_from(x);
-    let answer = regular_lent::interp_one_grad(slices, axis_count, axes, vals, straight, at);
+    let answer = regular_lent::interp_one_grad(slices, axis_count, axes, vals, mode_of(mode), at);
     tell_gradient(answer, axis_count, refusal, gradient)
 }
 
@@ -149,7 +153,7 @@ pub extern "C" fn veltzuma_regular_interp(
     starts: &[f64],
     steps: &[f64],
     vals: &[f64],
-    straight: bool,
+    mode: u8,
     queries: &[f64],
     refusal: &mut [usize],
     out: &mut [f64],
@@ -157,14 +161,14 @@ pub extern "C" fn veltzuma_regular_interp(
     ensures { λ r. ⌜
         record { number = r; refusal = now (refusal .exit); written = now (out .exit) }
         ≡ interpLeaves binary64
-        (regularFrom binary64 «axis_count» (now (counts .entry)) (now (starts .entry)) (now (steps .entry)) (now (vals .entry)) (modeOf straight))
+        (setBy (regularFrom binary64 «axis_count» (now (counts .entry)) (now (starts .entry)) (now (steps .entry)) (now (vals .entry))) mode)
         (now (queries .entry)) (now (refusal .entry)) (now (out .entry))
         ⌝ }
 {
-    let shortest = shortest_of(counts.len(), starts.len(), steps.len());
+    let shortest = named(mode, shortest_of(counts.len(), starts.len(), steps.len()));
     let slices = check_slices(axis_count, shortest, refusal.len());
     let axes = axes_from(counts, starts, steps);
-    let outcome = regular_lent::interp(slices, axis_count, axes, vals, straight, queries, out);
+    let outcome = regular_lent::interp(slices, axis_count, axes, vals, mode_of(mode), queries, out);
     tell(outcome, refusal)
 }
 
@@ -176,7 +180,7 @@ pub extern "C" fn veltzuma_regular_interp_grad(
     starts: &[f64],
     steps: &[f64],
     vals: &[f64],
-    straight: bool,
+    mode: u8,
     queries: &[f64],
     refusal: &mut [usize],
     out: &mut [f64],
@@ -184,14 +188,22 @@ pub extern "C" fn veltzuma_regular_interp_grad(
     ensures { λ r. ⌜
         record { number = r; refusal = now (refusal .exit); written = now (out .exit) }
         ≡ interpGradLeaves binary64
-        (regularFrom binary64 «axis_count» (now (counts .entry)) (now (starts .entry)) (now (steps .entry)) (now (vals .entry)) (modeOf straight))
+        (setBy (regularFrom binary64 «axis_count» (now (counts .entry)) (now (starts .entry)) (now (steps .entry)) (now (vals .entry))) mode)
         (now (queries .entry)) (now (refusal .entry)) (now (out .entry))
         ⌝ }
 {
-    let shortest = shortest_of(counts.len(), starts.len(), steps.len());
+    let shortest = named(mode, shortest_of(counts.len(), starts.len(), steps.len()));
     let slices = check_slices(axis_count, shortest, refusal.len());
     let axes = axes_from(counts, starts, steps);
-    let outcome = regular_lent::interp_grad(slices, axis_count, axes, vals, straight, queries, out);
+    let outcome = regular_lent::interp_grad(
+        slices,
+        axis_count,
+        axes,
+        vals,
+        mode_of(mode),
+        queries,
+        out,
+    );
     tell(outcome, refusal)
 }
 
@@ -222,29 +234,32 @@ pub extern "C" fn veltzuma_rectilinear_get_loc(
     counts: &[usize],
     axes: &[f64],
     vals: &[f64],
+    mode: u8,
     x: &[f64],
     refusal: &mut [usize],
     origins: &mut [usize],
     classes: &mut [u8],
 ) -> u8
     ensures { λ r. ⌜
-        ((mode : EdgeMode) → record { number = r; refusal = now (refusal .exit); written = (now (origins .exit), now (classes .exit)) }
+        record { number = r; refusal = now (refusal .exit); written = (now (origins .exit), now (classes .exit)) }
         ≡ getLocLeaves
-        (rectilinearFrom binary64 «axis_count» (now (counts .entry)) (now (axes .entry)) (now (vals .entry)) mode)
-        (now (x .entry)) (now (refusal .entry)) (now (origins .entry)) (now (classes .entry)))
+        (setBy (rectilinearFrom binary64 «axis_count» (now (counts .entry)) (now (axes .entry)) (now (vals .entry))) mode)
+        (now (x .entry)) (now (refusal .entry)) (now (origins .entry)) (now (classes .entry))
         ⌝ }
 {
+    let shortest = named(mode, counts.len());
     let room = least(origins.len(), classes.len());
     let slices = check_query_slices(
         axis_count,
-        counts.len(),
+        shortest,
         x.len(),
         refusal.len(),
         room,
         axis_count,
     );
     let four = counts_from(counts);
-    let answer = rectilinear_lent::get_loc(slices, axis_count, four, axes, vals, query_from(x));
+    let at = query_from(x);
+    let answer = rectilinear_lent::get_loc(slices, axis_count, four, axes, vals, mode_of(mode), at);
     tell_places(answer, axis_count, refusal, origins, classes)
 }
 
@@ -255,7 +270,7 @@ pub extern "C" fn veltzuma_rectilinear_interp_one(
     counts: &[usize],
     axes: &[f64],
     vals: &[f64],
-    straight: bool,
+    mode: u8,
     x: &[f64],
     refusal: &mut [usize],
     value: &mut [f64],
@@ -263,15 +278,24 @@ pub extern "C" fn veltzuma_rectilinear_interp_one(
     ensures { λ r. ⌜
         record { number = r; refusal = now (refusal .exit); written = now (value .exit) }
         ≡ interpOneLeaves binary64
-        (rectilinearFrom binary64 «axis_count» (now (counts .entry)) (now (axes .entry)) (now (vals .entry)) (modeOf straight))
+        (setBy (rectilinearFrom binary64 «axis_count» (now (counts .entry)) (now (axes .entry)) (now (vals .entry))) mode)
         (now (x .entry)) (now (refusal .entry)) (now (value .entry))
         ⌝ }
 {
+    let shortest = named(mode, counts.len());
     let room = value.len();
-    let slices = check_query_slices(axis_count, counts.len(), x.len(), refusal.len(), room, 1);
+    let slices = check_query_slices(axis_count, shortest, x.len(), refusal.len(), room, 1);
     let four = counts_from(counts);
     let at = query_from(x);
-    let answer = rectilinear_lent::interp_one(slices, axis_count, four, axes, vals, straight, at);
+    let answer = rectilinear_lent::interp_one(
+        slices,
+        axis_count,
+        four,
+        axes,
+        vals,
+        mode_of(mode),
+        at,
+    );
     tell_value(answer, refusal, value)
 }
 
@@ -282,7 +306,7 @@ pub extern "C" fn veltzuma_rectilinear_interp_one_grad(
     counts: &[usize],
     axes: &[f64],
     vals: &[f64],
-    straight: bool,
+    mode: u8,
     x: &[f64],
     refusal: &mut [usize],
     gradient: &mut [f64],
@@ -290,14 +314,15 @@ pub extern "C" fn veltzuma_rectilinear_interp_one_grad(
     ensures { λ r. ⌜
         record { number = r; refusal = now (refusal .exit); written = now (gradient .exit) }
         ≡ interpOneGradLeaves binary64
-        (rectilinearFrom binary64 «axis_count» (now (counts .entry)) (now (axes .entry)) (now (vals .entry)) (modeOf straight))
+        (setBy (rectilinearFrom binary64 «axis_count» (now (counts .entry)) (now (axes .entry)) (now (vals .entry))) mode)
         (now (x .entry)) (now (refusal .entry)) (now (gradient .entry))
         ⌝ }
 {
+    let shortest = named(mode, counts.len());
     let room = gradient.len();
     let slices = check_query_slices(
         axis_count,
-        counts.len(),
+        shortest,
         x.len(),
         refusal.len(),
         room,
@@ -311,7 +336,7 @@ pub extern "C" fn veltzuma_rectilinear_interp_one_grad(
         four,
         axes,
         vals,
-        straight,
+        mode_of(mode),
         at,
     );
     tell_gradient(answer, axis_count, refusal, gradient)
@@ -324,7 +349,7 @@ pub extern "C" fn veltzuma_rectilinear_interp(
     counts: &[usize],
     axes: &[f64],
     vals: &[f64],
-    straight: bool,
+    mode: u8,
     queries: &[f64],
     refusal: &mut [usize],
     out: &mut [f64],
@@ -332,11 +357,12 @@ pub extern "C" fn veltzuma_rectilinear_interp(
     ensures { λ r. ⌜
         record { number = r; refusal = now (refusal .exit); written = now (out .exit) }
         ≡ interpLeaves binary64
-        (rectilinearFrom binary64 «axis_count» (now (counts .entry)) (now (axes .entry)) (now (vals .entry)) (modeOf straight))
+        (setBy (rectilinearFrom binary64 «axis_count» (now (counts .entry)) (now (axes .entry)) (now (vals .entry))) mode)
         (now (queries .entry)) (now (refusal .entry)) (now (out .entry))
         ⌝ }
 {
-    let slices = check_slices(axis_count, counts.len(), refusal.len());
+    let shortest = named(mode, counts.len());
+    let slices = check_slices(axis_count, shortest, refusal.len());
     let four = counts_from(counts);
     let outcome = rectilinear_lent::interp(
         slices,
@@ -344,7 +370,7 @@ pub extern "C" fn veltzuma_rectilinear_interp(
         four,
         axes,
         vals,
-        straight,
+        mode_of(mode),
         queries,
         out,
     );
@@ -358,7 +384,7 @@ pub extern "C" fn veltzuma_rectilinear_interp_grad(
     counts: &[usize],
     axes: &[f64],
     vals: &[f64],
-    straight: bool,
+    mode: u8,
     queries: &[f64],
     refusal: &mut [usize],
     out: &mut [f64],
@@ -366,11 +392,12 @@ pub extern "C" fn veltzuma_rectilinear_interp_grad(
     ensures { λ r. ⌜
         record { number = r; refusal = now (refusal .exit); written = now (out .exit) }
         ≡ interpGradLeaves binary64
-        (rectilinearFrom binary64 «axis_count» (now (counts .entry)) (now (axes .entry)) (now (vals .entry)) (modeOf straight))
+        (setBy (rectilinearFrom binary64 «axis_count» (now (counts .entry)) (now (axes .entry)) (now (vals .entry))) mode)
         (now (queries .entry)) (now (refusal .entry)) (now (out .entry))
         ⌝ }
 {
-    let slices = check_slices(axis_count, counts.len(), refusal.len());
+    let shortest = named(mode, counts.len());
+    let slices = check_slices(axis_count, shortest, refusal.len());
     let four = counts_from(counts);
     let outcome = rectilinear_lent::interp_grad(
         slices,
@@ -378,7 +405,7 @@ pub extern "C" fn veltzuma_rectilinear_interp_grad(
         four,
         axes,
         vals,
-        straight,
+        mode_of(mode),
         queries,
         out,
     );

@@ -4,7 +4,7 @@
 ghost use mathlib.Core.Path.{_≡_};
 ghost use lib.Ieee.{binary32};
 ghost use Rattle.multicubic.specs.declared.EdgeMode.{EdgeMode};
-ghost use Rattle.slices.specs.Slices.{modeOf};
+ghost use Rattle.slices.specs.Lent.{setBy};
 ghost use Rattle.regular_lent.specs.Regular.{regularFrom};
 ghost use Rattle.rectilinear_lent.specs.Rectilinear.{rectilinearFrom};
 ghost use Rattle.capi.specs.Calls.{newLeaves, getLocLeaves, interpOneLeaves, interpOneGradLeaves, interpLeaves, interpGradLeaves};
@@ -12,6 +12,8 @@ use slices::check_query_slices;
 use slices::check_slices;
 use slices::counts_from;
 use slices::least;
+use slices::mode_of;
+use slices::named;
 use slices::shortest_of;
 use slices_f32::axes_from;
 use slices_f32::query_from;
@@ -50,19 +52,20 @@ pub extern "C" fn veltzuma_regular_get_loc_f32(
     starts: &[f32],
     steps: &[f32],
     vals: &[f32],
+    mode: u8,
     x: &[f32],
     refusal: &mut [usize],
     origins: &mut [usize],
     classes: &mut [u8],
 ) -> u8
     ensures { λ r. ⌜
-        ((mode : EdgeMode) → record { number = r; refusal = now (refusal .exit); written = (now (origins .exit), now (classes .exit)) }
+        record { number = r; refusal = now (refusal .exit); written = (now (origins .exit), now (classes .exit)) }
         ≡ getLocLeaves
-        (regularFrom binary32 «axis_count» (now (counts .entry)) (now (starts .entry)) (now (steps .entry)) (now (vals .entry)) mode)
-        (now (x .entry)) (now (refusal .entry)) (now (origins .entry)) (now (classes .entry)))
+        (setBy (regularFrom binary32 «axis_count» (now (counts .entry)) (now (starts .entry)) (now (steps .entry)) (now (vals .entry))) mode)
+        (now (x .entry)) (now (refusal .entry)) (now (origins .entry)) (now (classes .entry))
         ⌝ }
 {
-    let shortest = shortest_of(counts.len(), starts.len(), steps.len());
+    let shortest = named(mode, shortest_of(counts.len(), starts.len(), steps.len()));
     let room = least(origins.len(), classes.len());
     let slices = check_query_slices(
         axis_count,
@@ -73,7 +76,8 @@ pub extern "C" fn veltzuma_regular_get_loc_f32(
         axis_count,
     );
     let axes = axes_from(counts, starts, steps);
-    let answer = regular_lent_f32::get_loc(slices, axis_count, axes, vals, query_from(x));
+    let at = query_from(x);
+    let answer = regular_lent_f32::get_loc(slices, axis_count, axes, vals, mode_of(mode), at);
     tell_places(answer, axis_count, refusal, origins, classes)
 }
 
@@ -85,7 +89,7 @@ pub extern "C" fn veltzuma_regular_interp_one_f32(
     starts: &[f32],
     steps: &[f32],
     vals: &[f32],
-    straight: bool,
+    mode: u8,
     x: &[f32],
     refusal: &mut [usize],
     value: &mut [f32],
@@ -93,16 +97,16 @@ pub extern "C" fn veltzuma_regular_interp_one_f32(
     ensures { λ r. ⌜
         record { number = r; refusal = now (refusal .exit); written = now (value .exit) }
         ≡ interpOneLeaves binary32
-        (regularFrom binary32 «axis_count» (now (counts .entry)) (now (starts .entry)) (now (steps .entry)) (now (vals .entry)) (modeOf straight))
+        (setBy (regularFrom binary32 «axis_count» (now (counts .entry)) (now (starts .entry)) (now (steps .entry)) (now (vals .entry))) mode)
         (now (x .entry)) (now (refusal .entry)) (now (value .entry))
         ⌝ }
 {
-    let shortest = shortest_of(counts.len(), starts.len(), steps.len());
+    let shortest = named(mode, shortest_of(counts.len(), starts.len(), steps.len()));
     let room = value.len();
     let slices = check_query_slices(axis_count, shortest, x.len(), refusal.len(), room, 1);
     let axes = axes_from(counts, starts, steps);
     let at = query_from(x);
-    let answer = regular_lent_f32::interp_one(slices, axis_count, axes, vals, straight, at);
+    let answer = regular_lent_f32::interp_one(slices, axis_count, axes, vals, mode_of(mode), at);
     tell_value(answer, refusal, value)
 }
 
@@ -114,7 +118,7 @@ pub extern "C" fn veltzuma_regular_interp_one_grad_f32(
     starts: &[f32],
     steps: &[f32],
     vals: &[f32],
-    straight: bool,
+    mode: u8,
     x: &[f32],
     refusal: &mut [usize],
     gradient: &mut [f32],
@@ -122,11 +126,11 @@ pub extern "C" fn veltzuma_regular_interp_one_grad_f32(
     ensures { λ r. ⌜
         record { number = r; refusal = now (refusal .exit); written = now (gradient .exit) }
         ≡ interpOneGradLeaves binary32
-        (regularFrom binary32 «axis_count» (now (counts .entry)) (now (starts .entry)) (now (steps .entry)) (now (vals .entry)) (modeOf straight))
+        (setBy (regularFrom binary32 «axis_count» (now (counts .entry)) (now (starts .entry)) (now (steps .entry)) (now (vals .entry))) mode)
         (now (x .entry)) (now (refusal .entry)) (now (gradient .entry))
         ⌝ }
 {
-    let shortest = shortest_of(counts.len(), starts.len(), steps.len());
+    let shortest = named(mode, shortest_of(counts.len(), starts.len(), steps.len()));
     let room = gradient.len();
     let slices = check_query_slices(
         axis_count,
@@ -138,7 +142,14 @@ pub extern "C" fn veltzuma_regular_interp_one_grad_f32(
     );
     let axes = axes_from(counts, starts, steps);
     let at = query_from(x);
-    let answer = regular_lent_f32::interp_one_grad(slices, axis_count, axes, vals, straight, at);
+    let answer = regular_lent_f32::interp_one_grad(
+        slices,
+        axis_count,
+        axes,
+        vals,
+        mode_of(mode),
+        at,
+    );
     tell_gradient(answer, axis_count, refusal, gradient)
 }
 
@@ -150,7 +161,7 @@ pub extern "C" fn veltzuma_regular_interp_f32(
     starts: &[f32],
     steps: &[f32],
     vals: &[f32],
-    straight: bool,
+    mode: u8,
     queries: &[f32],
     refusal: &mut [usize],
     out: &mut [f32],
@@ -158,14 +169,22 @@ pub extern "C" fn veltzuma_regular_interp_f32(
     ensures { λ r. ⌜
         record { number = r; refusal = now (refusal .exit); written = now (out .exit) }
         ≡ interpLeaves binary32
-        (regularFrom binary32 «axis_count» (now (counts .entry)) (now (starts .entry)) (now (steps .entry)) (now (vals .entry)) (modeOf straight))
+        (setBy (regularFrom binary32 «axis_count» (now (counts .entry)) (now (starts .entry)) (now (steps .entry)) (now (vals .entry))) mode)
         (now (queries .entry)) (now (refusal .entry)) (now (out .entry))
         ⌝ }
 {
-    let shortest = shortest_of(counts.len(), starts.len(), steps.len());
+    let shortest = named(mode, shortest_of(counts.len(), starts.len(), steps.len()));
     let slices = check_slices(axis_count, shortest, refusal.len());
     let axes = axes_from(counts, starts, steps);
-    let outcome = regular_lent_f32::interp(slices, axis_count, axes, vals, straight, queries, out);
+    let outcome = regular_lent_f32::interp(
+        slices,
+        axis_count,
+        axes,
+        vals,
+        mode_of(mode),
+        queries,
+        out,
+    );
     tell(outcome, refusal)
 }
 
@@ -177,7 +196,7 @@ pub extern "C" fn veltzuma_regular_interp_grad_f32(
     starts: &[f32],
     steps: &[f32],
     vals: &[f32],
-    straight: bool,
+    mode: u8,
     queries: &[f32],
     refusal: &mut [usize],
     out: &mut [f32],
@@ -185,11 +204,11 @@ pub extern "C" fn veltzuma_regular_interp_grad_f32(
     ensures { λ r. ⌜
         record { number = r; refusal = now (refusal .exit); written = now (out .exit) }
         ≡ interpGradLeaves binary32
-        (regularFrom binary32 «axis_count» (now (counts .entry)) (now (starts .entry)) (now (steps .entry)) (now (vals .entry)) (modeOf straight))
+        (setBy (regularFrom binary32 «axis_count» (now (counts .entry)) (now (starts .entry)) (now (steps .entry)) (now (vals .entry))) mode)
         (now (queries .entry)) (now (refusal .entry)) (now (out .entry))
         ⌝ }
 {
-    let shortest = shortest_of(counts.len(), starts.len(), steps.len());
+    let shortest = named(mode, shortest_of(counts.len(), starts.len(), steps.len()));
     let slices = check_slices(axis_count, shortest, refusal.len());
     let axes = axes_from(counts, starts, steps);
     let outcome = regular_lent_f32::interp_grad(
@@ -197,7 +216,7 @@ pub extern "C" fn veltzuma_regular_interp_grad_f32(
         axis_count,
         axes,
         vals,
-        straight,
+        mode_of(mode),
         queries,
         out,
     );
@@ -231,29 +250,40 @@ pub extern "C" fn veltzuma_rectilinear_get_loc_f32(
     counts: &[usize],
     axes: &[f32],
     vals: &[f32],
+    mode: u8,
     x: &[f32],
     refusal: &mut [usize],
     origins: &mut [usize],
     classes: &mut [u8],
 ) -> u8
     ensures { λ r. ⌜
-        ((mode : EdgeMode) → record { number = r; refusal = now (refusal .exit); written = (now (origins .exit), now (classes .exit)) }
+        record { number = r; refusal = now (refusal .exit); written = (now (origins .exit), now (classes .exit)) }
         ≡ getLocLeaves
-        (rectilinearFrom binary32 «axis_count» (now (counts .entry)) (now (axes .entry)) (now (vals .entry)) mode)
-        (now (x .entry)) (now (refusal .entry)) (now (origins .entry)) (now (classes .entry)))
+        (setBy (rectilinearFrom binary32 «axis_count» (now (counts .entry)) (now (axes .entry)) (now (vals .entry))) mode)
+        (now (x .entry)) (now (refusal .entry)) (now (origins .entry)) (now (classes .entry))
         ⌝ }
 {
+    let shortest = named(mode, counts.len());
     let room = least(origins.len(), classes.len());
     let slices = check_query_slices(
         axis_count,
-        counts.len(),
+        shortest,
         x.len(),
         refusal.len(),
         room,
         axis_count,
     );
     let four = counts_from(counts);
-    let answer = rectilinear_lent_f32::get_loc(slices, axis_count, four, axes, vals, query_from(x));
+    let at = query_from(x);
+    let answer = rectilinear_lent_f32::get_loc(
+        slices,
+        axis_count,
+        four,
+        axes,
+        vals,
+        mode_of(mode),
+        at,
+    );
     tell_places(answer, axis_count, refusal, origins, classes)
 }
 
@@ -264,7 +294,7 @@ pub extern "C" fn veltzuma_rectilinear_interp_one_f32(
     counts: &[usize],
     axes: &[f32],
     vals: &[f32],
-    straight: bool,
+    mode: u8,
     x: &[f32],
     refusal: &mut [usize],
     value: &mut [f32],
@@ -272,12 +302,13 @@ pub extern "C" fn veltzuma_rectilinear_interp_one_f32(
     ensures { λ r. ⌜
         record { number = r; refusal = now (refusal .exit); written = now (value .exit) }
         ≡ interpOneLeaves binary32
-        (rectilinearFrom binary32 «axis_count» (now (counts .entry)) (now (axes .entry)) (now (vals .entry)) (modeOf straight))
+        (setBy (rectilinearFrom binary32 «axis_count» (now (counts .entry)) (now (axes .entry)) (now (vals .entry))) mode)
         (now (x .entry)) (now (refusal .entry)) (now (value .entry))
         ⌝ }
 {
+    let shortest = named(mode, counts.len());
     let room = value.len();
-    let slices = check_query_slices(axis_count, counts.len(), x.len(), refusal.len(), room, 1);
+    let slices = check_query_slices(axis_count, shortest, x.len(), refusal.len(), room, 1);
     let four = counts_from(counts);
     let at = query_from(x);
     let answer = rectilinear_lent_f32::interp_one(
@@ -286,7 +317,7 @@ pub extern "C" fn veltzuma_rectilinear_interp_one_f32(
         four,
         axes,
         vals,
-        straight,
+        mode_of(mode),
         at,
     );
     tell_value(answer, refusal, value)
@@ -299,7 +330,7 @@ pub extern "C" fn veltzuma_rectilinear_interp_one_grad_f32(
     counts: &[usize],
     axes: &[f32],
     vals: &[f32],
-    straight: bool,
+    mode: u8,
     x: &[f32],
     refusal: &mut [usize],
     gradient: &mut [f32],
@@ -307,14 +338,15 @@ pub extern "C" fn veltzuma_rectilinear_interp_one_grad_f32(
     ensures { λ r. ⌜
         record { number = r; refusal = now (refusal .exit); written = now (gradient .exit) }
         ≡ interpOneGradLeaves binary32
-        (rectilinearFrom binary32 «axis_count» (now (counts .entry)) (now (axes .entry)) (now (vals .entry)) (modeOf straight))
+        (setBy (rectilinearFrom binary32 «axis_count» (now (counts .entry)) (now (axes .entry)) (now (vals .entry))) mode)
         (now (x .entry)) (now (refusal .entry)) (now (gradient .entry))
         ⌝ }
 {
+    let shortest = named(mode, counts.len());
     let room = gradient.len();
     let slices = check_query_slices(
         axis_count,
-        counts.len(),
+        shortest,
         x.len(),
         refusal.len(),
         room,
@@ -328,7 +360,7 @@ pub extern "C" fn veltzuma_rectilinear_interp_one_grad_f32(
         four,
         axes,
         vals,
-        straight,
+        mode_of(mode),
         at,
     );
     tell_gradient(answer, axis_count, refusal, gradient)
@@ -341,7 +373,7 @@ pub extern "C" fn veltzuma_rectilinear_interp_f32(
     counts: &[usize],
     axes: &[f32],
     vals: &[f32],
-    straight: bool,
+    mode: u8,
     queries: &[f32],
     refusal: &mut [usize],
     out: &mut [f32],
@@ -349,11 +381,12 @@ pub extern "C" fn veltzuma_rectilinear_interp_f32(
     ensures { λ r. ⌜
         record { number = r; refusal = now (refusal .exit); written = now (out .exit) }
         ≡ interpLeaves binary32
-        (rectilinearFrom binary32 «axis_count» (now (counts .entry)) (now (axes .entry)) (now (vals .entry)) (modeOf straight))
+        (setBy (rectilinearFrom binary32 «axis_count» (now (counts .entry)) (now (axes .entry)) (now (vals .entry))) mode)
         (now (queries .entry)) (now (refusal .entry)) (now (out .entry))
         ⌝ }
 {
-    let slices = check_slices(axis_count, counts.len(), refusal.len());
+    let shortest = named(mode, counts.len());
+    let slices = check_slices(axis_count, shortest, refusal.len());
     let four = counts_from(counts);
     let outcome = rectilinear_lent_f32::interp(
         slices,
@@ -361,7 +394,7 @@ pub extern "C" fn veltzuma_rectilinear_interp_f32(
         four,
         axes,
         vals,
-        straight,
+        mode_of(mode),
         queries,
         out,
     );
@@ -375,7 +408,7 @@ pub extern "C" fn veltzuma_rectilinear_interp_grad_f32(
     counts: &[usize],
     axes: &[f32],
     vals: &[f32],
-    straight: bool,
+    mode: u8,
     queries: &[f32],
     refusal: &mut [usize],
     out: &mut [f32],
@@ -383,11 +416,12 @@ pub extern "C" fn veltzuma_rectilinear_interp_grad_f32(
     ensures { λ r. ⌜
         record { number = r; refusal = now (refusal .exit); written = now (out .exit) }
         ≡ interpGradLeaves binary32
-        (rectilinearFrom binary32 «axis_count» (now (counts .entry)) (now (axes .entry)) (now (vals .entry)) (modeOf straight))
+        (setBy (rectilinearFrom binary32 «axis_count» (now (counts .entry)) (now (axes .entry)) (now (vals .entry))) mode)
         (now (queries .entry)) (now (refusal .entry)) (now (out .entry))
         ⌝ }
 {
-    let slices = check_slices(axis_count, counts.len(), refusal.len());
+    let shortest = named(mode, counts.len());
+    let slices = check_slices(axis_count, shortest, refusal.len());
     let four = counts_from(counts);
     let outcome = rectilinear_lent_f32::interp_grad(
         slices,
@@ -395,7 +429,7 @@ pub extern "C" fn veltzuma_rectilinear_interp_grad_f32(
         four,
         axes,
         vals,
-        straight,
+        mode_of(mode),
         queries,
         out,
     );

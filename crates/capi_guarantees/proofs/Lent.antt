@@ -26,7 +26,7 @@ lower-accepted (Refused number query axis) (Refused k q a) e = absurd (go (ltb k
     go false e = not-accepted number query axis e
 
 module _ (slices : Outcome) (g : Grid) where
-  accepted : IsAccepted (lent slices g) → IsAccepted g
+  pub accepted : IsAccepted (lent slices g) → IsAccepted g
   accepted e = lower-accepted slices (g .checked) e .1
 
   pub lent-supplied : {f : Format} {premises : Type 0} → Supplied f premises g → Supplied f premises (lent slices g)
@@ -58,6 +58,9 @@ module _ (s : Gathered) (refusal : ℕ) where
 module _ (s : Gathered) (query refusal room need : ℕ) where
   abbrev query-slices : Outcome
   query-slices = querySlicesOf (s .grid .axis-count) (s .shortest) query refusal room need
+
+  pub accepted-query : IsAccepted (lentToQuery s query refusal room need) → IsAccepted (s .grid)
+  accepted-query = accepted query-slices (s .grid)
 
   pub supplied-to-query : {f : Format} {premises : Type 0} → Supplied f premises (s .grid) → Supplied f premises (lentToQuery s query refusal room need)
   supplied-to-query = lent-supplied query-slices (s .grid)

@@ -7,15 +7,19 @@ use lib.ListN.{length, take}
 use lib.Ieee.{Float, Format}
 use Rattle.grid.specs.Query.{Grid, at, outcomeOf, valueAnswer, gradientAnswer}
 use Rattle.grid.specs.Batch.{interpOutcome, interpBuffer, gradBuffer}
+use Rattle.grid.specs.Edges.{AtClamped}
 use Rattle.grid.specs.Nodes.{Fits}
-use Rattle.guarantees.proofs.Nodes.{Supplied, node-rule, node-corollary, node-in-batch}
+use Rattle.grid.proofs.AtNodes.{AtEach}
+use Rattle.guarantees.specs.Statements.{IsAccepted}
+use Rattle.guarantees.proofs.Typing.{Typed}
+use Rattle.guarantees.proofs.Nodes.{Supplied, node-rule, node-corollary, node-in-batch, held-edge}
 use Rattle.guarantees.proofs.Blocks.{Counted, block-rule, block-gradient, block-in-batch, block-in-columns}
 use Rattle.slices.specs.Slices.{queryFrom}
 use Rattle.slices.specs.Lent.{Gathered, lentTo, lentToQuery}
 use Rattle.capi.specs.Calls.{interpOneLeaves, interpOneGradLeaves, interpLeaves, interpGradLeaves}
-use Rattle.capi_guarantees.specs.Statements.{OfValue, OfGradient, OfBatch, OfColumns, Owed}
+use Rattle.capi_guarantees.specs.Statements.{OfValue, OfGradient, OfBatch, OfColumns, Owed, OwedHeld}
 use Rattle.capi_guarantees.proofs.Typing.{typed, query-typed}
-use Rattle.capi_guarantees.proofs.Lent.{supplied-to, counted-to, refusal-holds, supplied-to-query, counted-to-query}
+use Rattle.capi_guarantees.proofs.Lent.{supplied-to, counted-to, refusal-holds, accepted-query, supplied-to-query, counted-to-query}
 use Rattle.capi_guarantees.proofs.Read.{value-read, gradient-read, number-read, query-read}
 
 module _ (f : Format) (premises : Type 0) (s s' : Gathered) where
@@ -94,3 +98,13 @@ module _ (f : Format) (premises : Type 0) (s s' : Gathered) where
     batch = λ queries out out' refusal refusal'. of-batch queries out out' refusal refusal' kind;
     columns = λ queries out out' refusal refusal'. of-columns queries out out' refusal refusal' counted;
   }
+
+-- of one table that holds its edges, where the kind supplies the rows of a query past an end
+pub owed-held : (f : Format) (premises : Type 0) (s : Gathered) → Supplied f premises (s .grid)
+    → ((query : ℕ → Float) → Typed f query → IsAccepted (s .grid) → premises → (is : List ℕ) → AtClamped 0 (s .grid .axes) is query → AtEach 0 (s .grid .axes) is query) → OwedHeld f premises s
+owed-held f premises s kind rows x out refusal fit index h =
+    let one = lentToQuery s (length x) (length refusal) (length out) 1 in
+    let query = at (queryFrom x) in
+    let taken = accepted-query s (length x) (length refusal) (length out) 1 in
+    let r = held-edge f premises one (supplied-to-query s (length x) (length refusal) (length out) 1 kind) query (λ e. rows query (query-typed f x fit) (taken e)) (valueAnswer f one query) refl index h in
+    (r .0, value-read f s x refusal out (r .0) (h .0) (r .1), r .2)

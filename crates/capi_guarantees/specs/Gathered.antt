@@ -1,28 +1,37 @@
--- The same of the grids that slices describe: two tables on the same axes, each with its own values and setting, within the kind's premises on
--- the axes.
+-- The same of the grids that slices describe: two tables on the same axes, each with its own values and the number of its setting, within the
+-- kind's premises on the axes. A number that names no setting needs no premise: such a grid is not accepted as it is lent.
 use Prim.Native.Nat.{ℕ}
 use mathlib.Core.List.{List}
 use lib.ListN.{take}
 use lib.Ieee.{Float, Format}
-use Rattle.multicubic.specs.declared.EdgeMode.{EdgeMode}
 use Rattle.grid.specs.Nodes.{Fits}
 use Rattle.slices.specs.Slices.{countsFrom}
 use Rattle.slices.specs.Axes.{axesFrom}
+use Rattle.slices.specs.Lent.{setBy}
 use Rattle.regular_query.specs.Grid as Reg
 use Rattle.rectilinear_order.specs.Grid.{axesOf}
 use Rattle.rectilinear_query.specs.Grid as Rect
 use Rattle.regular_lent.specs.Regular.{regularFrom}
 use Rattle.rectilinear_lent.specs.Rectilinear.{rectilinearFrom}
-use Rattle.capi_guarantees.specs.Statements.{Owed}
+use Rattle.capi_guarantees.specs.Statements.{Owed, OwedHeld}
 
 abbrev pub OwedRegular : Format → ℕ → List ℕ → List Float → List Float → Type 0
 OwedRegular f n counts starts steps =
-    (vals vals' : List Float) (mode mode' : EdgeMode) → Fits f vals → Fits f vals'
+    (vals vals' : List Float) (mode mode' : ℕ) → Fits f vals → Fits f vals'
     → Owed f (Reg.AllPremises (take n (axesFrom counts starts steps)))
-    (regularFrom f n counts starts steps vals mode) (regularFrom f n counts starts steps vals' mode')
+    (setBy (regularFrom f n counts starts steps vals) mode) (setBy (regularFrom f n counts starts steps vals') mode')
 
 abbrev pub OwedRectilinear : Format → ℕ → List ℕ → List Float → Type 0
 OwedRectilinear f n counts axes =
-    (vals vals' : List Float) (mode mode' : EdgeMode) → Fits f axes → Fits f vals → Fits f vals'
+    (vals vals' : List Float) (mode mode' : ℕ) → Fits f axes → Fits f vals → Fits f vals'
     → Owed f (Rect.AllPremises f (axesOf (take n (countsFrom counts)) axes))
-    (rectilinearFrom f n counts axes vals mode) (rectilinearFrom f n counts axes vals' mode')
+    (setBy (rectilinearFrom f n counts axes vals) mode) (setBy (rectilinearFrom f n counts axes vals') mode')
+
+-- clause 8.6: setting 2, held
+abbrev pub HeldRegular : Format → ℕ → List ℕ → List Float → List Float → Type 0
+HeldRegular f n counts starts steps =
+    (vals : List Float) → Fits f vals → OwedHeld f (Reg.AllPremises (take n (axesFrom counts starts steps))) (setBy (regularFrom f n counts starts steps vals) 2)
+
+abbrev pub HeldRectilinear : Format → ℕ → List ℕ → List Float → Type 0
+HeldRectilinear f n counts axes =
+    (vals : List Float) → Fits f axes → Fits f vals → OwedHeld f (Rect.AllPremises f (axesOf (take n (countsFrom counts)) axes)) (setBy (rectilinearFrom f n counts axes vals) 2)

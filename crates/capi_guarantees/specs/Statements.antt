@@ -12,7 +12,7 @@ use Rattle.multicubic.specs.declared.Outcome.the-variants.{Accepted, Refused}
 use Rattle.multicubic.specs.Answers.{answered}
 use Rattle.grid.specs.Query.{Grid, at}
 use Rattle.grid.specs.Nodes.{Fits}
-use Rattle.guarantees.specs.Statements.{NodeRule, NodeCorollary, NodeInBatch, BlockRule, BlockGradient, BlockInBatch, BlockInColumns}
+use Rattle.guarantees.specs.Statements.{NodeRule, NodeCorollary, NodeInBatch, HeldEdge, BlockRule, BlockGradient, BlockInBatch, BlockInColumns}
 use Rattle.slices.specs.Slices.{queryFrom}
 use Rattle.slices.specs.Lent.{Gathered, lentTo, lentToQuery}
 use Rattle.told.specs.Told.{Leaves}
@@ -65,3 +65,9 @@ pub record Owed (f : Format) (premises : Type 0) (s s' : Gathered) : Type 0 wher
   pub columns : (queries out out' : List Float) (refusal refusal' : List ℕ)
       → OfColumns f (lentTo s (length refusal)) (lentTo s' (length refusal'))
       queries out out' (interpGradLeaves f s queries refusal out) (interpGradLeaves f s' queries refusal' out')
+
+-- ---- `interp_one` on a table that holds its edges
+abbrev pub OwedHeld : Format → Type 0 → Gathered → Type 0
+OwedHeld f premises s =
+    (x value : List Float) (refusal : List ℕ) → Fits f x
+    → HeldEdge premises (lentToQuery s (length x) (length refusal) (length value) 1) (at (queryFrom x)) (answerRead (interpOneLeaves f s x refusal value))

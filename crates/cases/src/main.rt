@@ -1,14 +1,17 @@
 // Runs the cases of clause 9.2, each refusal with its place, and what is easily missed.
 // One line for each case, and how many agree.
 use cases_calls::Score;
+use cases_calls::answer_of;
 use cases_calls::answered;
 use cases_calls::cubic;
+use cases_calls::held;
 use cases_calls::kept;
 use cases_calls::not_placed;
 use cases_calls::rectilinear;
 use cases_calls::rectilinear_refused_order;
 use cases_calls::refused_batch;
 use cases_calls::regular;
+use cases_calls::regular_from;
 use cases_calls::taken;
 use cases_calls::told;
 use cases_calls::walk;
@@ -23,6 +26,7 @@ use harness_corpus::part;
 use harness_corpus::refusal;
 use harness_report::say;
 use harness_report::say_number;
+use harness_words::bits_of;
 use harness_words::clear;
 
 // The numbers hold on both kinds: at 1.5 3.375, slope 6.25; at 4 as given.
@@ -253,21 +257,345 @@ fn stopped(s: Score, z: &[f64]) -> Score {
     told(s, t, b"regular, 8: query 1 of a batch, axis 1")
 }
 
-// A grid that a caller keeps: the value at 1.5, and the refusals of one whose count or axis count was altered by hand.
+// A query with the edge held, on nodes 0, 1, 2 .. of both kinds. Its places on the two may differ.
+fn held_at(
+    s: Score,
+    vals: &[f64],
+    x: f64,
+    places: [u64; 2],
+    value: u64,
+    slope: u64,
+    on_regular: &[u8],
+    on_rectilinear: &[u8],
+) -> Score {
+    let count = vals.len();
+    let nodes = [0.0, 1.0, 2.0, 3.0, 4.0, 5.0];
+    let entries = part(&nodes, 0, count);
+    let g = held(regular(1, count, 0, 0, 1.0, 1.0));
+    let h = held(rectilinear(1, count, 0, 0));
+    let s = answered(s, g, entries, vals, x, places[0], value, slope, on_regular);
+    answered(
+        s,
+        h,
+        entries,
+        vals,
+        x,
+        places[1],
+        value,
+        slope,
+        on_rectilinear,
+    )
+}
+
+// Past an end: the end's value, and no slope. The last node is OutsideHigh on a regular axis and InsideHigh on a rectilinear one, the first
+// InsideLow and OutsideLow.
+fn held_past(s: Score) -> Score {
+    let v = [0.0, 1.0, 8.0, 27.0];
+    let far = 1.0 / 0.0;
+    let last = 0x403B_0000_0000_0000;
+    let s = held_at(
+        s,
+        &v,
+        4.0,
+        [4, 3],
+        last,
+        0,
+        b"regular, held: at 4",
+        b"rectilinear, held: at 4",
+    );
+    let s = held_at(
+        s,
+        &v,
+        far,
+        [4, 3],
+        last,
+        0,
+        b"regular, held: at +inf",
+        b"rectilinear, held: at +inf",
+    );
+    let s = held_at(
+        s,
+        &v,
+        -1.0,
+        [1, 2],
+        0,
+        0,
+        b"regular, held: at -1",
+        b"rectilinear, held: at -1",
+    );
+    held_at(
+        s,
+        &v,
+        -far,
+        [1, 2],
+        0,
+        0,
+        b"regular, held: at -inf",
+        b"rectilinear, held: at -inf",
+    )
+}
+
+// At an end the slope is the cubic's, 25 and -2, and -0 is at the node 0, not below it. Between the nodes all is as in the cubic.
+fn held_within(s: Score) -> Score {
+    let v = [0.0, 1.0, 8.0, 27.0];
+    let last = 0x403B_0000_0000_0000;
+    let up = 0x4039_0000_0000_0000;
+    let down = 0xC000_0000_0000_0000;
+    let s = held_at(
+        s,
+        &v,
+        3.0,
+        [4, 3],
+        last,
+        up,
+        b"regular, held: at 3",
+        b"rectilinear, held: at 3",
+    );
+    let s = held_at(
+        s,
+        &v,
+        0.0,
+        [1, 2],
+        0,
+        down,
+        b"regular, held: at 0",
+        b"rectilinear, held: at 0",
+    );
+    let s = held_at(
+        s,
+        &v,
+        -0.0,
+        [1, 2],
+        0,
+        down,
+        b"regular, held: at -0",
+        b"rectilinear, held: at -0",
+    );
+    held_at(
+        s,
+        &v,
+        1.5,
+        [0, 0],
+        0x400B_0000_0000_0000,
+        0x4019_0000_0000_0000,
+        b"regular, held: at 1.5",
+        b"rectilinear, held: at 1.5",
+    )
+}
+
+// The ends of a longer axis, 125 and 0: the last block starts at node 2.
+fn held_longer(s: Score) -> Score {
+    let v = [0.0, 1.0, 8.0, 27.0, 64.0, 125.0];
+    let s = held_at(
+        s,
+        &v,
+        9.0,
+        [20, 19],
+        0x405F_4000_0000_0000,
+        0,
+        b"regular, held: 6 nodes, at 9",
+        b"rectilinear, held: 6 nodes, at 9",
+    );
+    held_at(
+        s,
+        &v,
+        -5.0,
+        [1, 2],
+        0,
+        0,
+        b"regular, held: 6 nodes, at -5",
+        b"rectilinear, held: 6 nodes, at -5",
+    )
+}
+
+// What only the sign of a zero shows. The four +0 of a slope are multiplied, so values below 0 give -0. The weights are the cubic's: a stored -0
+// comes out as +0, and with the straight line's it would stay.
+fn held_zeros(s: Score) -> Score {
+    let below = [-1.0, -2.0, -3.0, -4.0];
+    let high = [-1.0, -1.0, 8.0, -0.0];
+    let low = [-0.0, 8.0, -1.0, -1.0];
+    let s = held_at(
+        s,
+        &below,
+        9.0,
+        [4, 3],
+        0xC010_0000_0000_0000,
+        bits_of(-0.0),
+        b"regular, held: values below 0",
+        b"rectilinear, held: values below 0",
+    );
+    let s = held_at(
+        s,
+        &high,
+        9.0,
+        [4, 3],
+        0,
+        0,
+        b"regular, held: last value -0",
+        b"rectilinear, held: last value -0",
+    );
+    held_at(
+        s,
+        &low,
+        -5.0,
+        [1, 2],
+        0,
+        0,
+        b"regular, held: first value -0",
+        b"rectilinear, held: first value -0",
+    )
+}
+
+// A NaN is past no end, so it is refused or answered as in the cubic. 2^63 is past one, and no longer refused.
+fn held_far(s: Score) -> Score {
+    let x = [0.0, 1.0, 2.0, 3.0];
+    let v = [0.0, 1.0, 8.0, 27.0];
+    let none = 0.0 / 0.0;
+    let nan = 0x7FF8_0000_0000_0000;
+    let far = 9223372036854775808.0;
+    let g = regular(1, 4, 0, 0, 1.0, 1.0);
+    let h = rectilinear(1, 4, 0, 0);
+    let s = not_placed(s, held(g), &x, &v, none, b"regular, held: at NaN");
+    let s = answered(
+        s,
+        cubic(h),
+        &x,
+        &v,
+        none,
+        2,
+        nan,
+        nan,
+        b"rectilinear, at NaN, cubic",
+    );
+    let s = answered(
+        s,
+        held(h),
+        &x,
+        &v,
+        none,
+        2,
+        nan,
+        nan,
+        b"rectilinear, held: at NaN",
+    );
+    let s = not_placed(s, cubic(g), &x, &v, far, b"regular, 8: 2^63, cubic");
+    held_at(
+        s,
+        &v,
+        far,
+        [4, 3],
+        0x403B_0000_0000_0000,
+        0,
+        b"regular, held: at 2^63",
+        b"rectilinear, held: at 2^63",
+    )
+}
+
+// From +inf on every node is +inf, and no quotient is a number. By steps of +inf node 0 is NaN and the last +inf, so no query is past an end: 1
+// is placed by its quotient 0, and its t is NaN.
+fn held_infinite(s: Score) -> Score {
+    let v = [0.0, 1.0, 8.0, 27.0];
+    let far = 1.0 / 0.0;
+    let nan = 0x7FF8_0000_0000_0000;
+    let g = held(regular_from(far, 1.0));
+    let h = held(regular_from(0.0, far));
+    let s = not_placed(s, g, &v, &v, 0.0, b"regular, held: start +inf, at 0");
+    let s = not_placed(s, g, &v, &v, far, b"regular, held: start +inf, at +inf");
+    let s = answered(
+        s,
+        h,
+        &v,
+        &v,
+        1.0,
+        1,
+        nan,
+        nan,
+        b"regular, held: step +inf, at 1",
+    );
+    not_placed(s, h, &v, &v, far, b"regular, held: step +inf, at +inf")
+}
+
+// Queries past the end of axis 1, past none, and past the end of axis 0. The values are cubes along axis 0, times 1 to 4 along axis 1, and so are
+// the answers: of the cubes 3.375 and the slope 6.25 at 1.5, or 27 at the end; of 1 to 4 2.5 and the slope 1 at 1.5, or 4 at the end.
+fn held_axes_on(s: Score, g: Group, axes: &[f64], end: u64, name: &[u8]) -> Score {
+    let vals = [
+        0.0,
+        0.0,
+        0.0,
+        0.0,
+        1.0,
+        2.0,
+        3.0,
+        4.0,
+        8.0,
+        16.0,
+        24.0,
+        32.0,
+        27.0,
+        54.0,
+        81.0,
+        108.0,
+    ];
+    let mut values = marked_words();
+    values[0] = 0x402B_0000_0000_0000;
+    values[1] = 0x4020_E000_0000_0000;
+    values[2] = 0x4050_E000_0000_0000;
+    let mut slopes = marked_words();
+    slopes[0] = 0x4039_0000_0000_0000;
+    slopes[1] = 0x402F_4000_0000_0000;
+    slopes[2] = 0;
+    slopes[3] = 0;
+    slopes[4] = 0x400B_0000_0000_0000;
+    slopes[5] = 0x403B_0000_0000_0000;
+    let e = answer_of([0, end], values[0], [slopes[0], slopes[3]]);
+    let t = same_single(clear(), g, axes, &vals, [1.5, 9.0, 0.0, 0.0], e);
+    let e = answer_of([0, 0], values[1], [slopes[1], slopes[4]]);
+    let t = same_single(t, g, axes, &vals, [1.5, 1.5, 0.0, 0.0], e);
+    let e = answer_of([end, 0], values[2], [slopes[2], slopes[5]]);
+    let t = same_single(t, g, axes, &vals, [9.0, 1.5, 0.0, 0.0], e);
+    let three = with_buffers(g, 3, 6);
+    let queries = [1.5, 1.5, 9.0, 9.0, 1.5, 1.5];
+    let w = walk(t, 0, 0, 0);
+    let t = run_batches(three, axes, &vals, &queries, w, &values, &slopes);
+    told(s, t, name)
+}
+
+fn held_axes(s: Score) -> Score {
+    let axes = [0.0, 1.0, 2.0, 3.0, 0.0, 1.0, 2.0, 3.0];
+    let g = held(regular(2, 4, 4, 0, 1.0, 1.0));
+    let h = held(rectilinear(2, 4, 4, 0));
+    let s = held_axes_on(s, g, &axes, 4, b"regular, held: past one of 2 axes");
+    held_axes_on(s, h, &axes, 3, b"rectilinear, held: past one of 2 axes")
+}
+
+fn held_edge(s: Score) -> Score {
+    let s = held_past(s);
+    let s = held_within(s);
+    let s = held_longer(s);
+    let s = held_zeros(s);
+    let s = held_far(s);
+    let s = held_infinite(s);
+    held_axes(s)
+}
+
+// A grid that a caller keeps: the value at 1.5, that of the last node past it, and the refusals of one whose count or axis count was altered by
+// hand.
 fn kept_on(
     s: Score,
     g: Group,
     short: Group,
     wide: Group,
     at_1_5: &[u8],
+    held_at_9: &[u8],
     count: &[u8],
     axes: &[u8],
 ) -> Score {
     let x = [0.0, 1.0, 2.0, 3.0];
     let v = [0.0, 1.0, 8.0, 27.0];
-    let s = kept(s, g, &x, &v, 0, 0x400B_0000_0000_0000, at_1_5);
-    let s = kept(s, short, part(&x, 0, 3), part(&v, 0, 3), 4, 0, count);
-    kept(s, wide, &x, &v, 1, 0, axes)
+    let s = kept(s, g, &x, &v, 1.5, 0, 0x400B_0000_0000_0000, at_1_5);
+    let s = kept(s, held(g), &x, &v, 9.0, 0, 0x403B_0000_0000_0000, held_at_9);
+    let s = kept(s, short, part(&x, 0, 3), part(&v, 0, 3), 1.5, 4, 0, count);
+    kept(s, wide, &x, &v, 1.5, 1, 0, axes)
 }
 
 fn kept_grids(s: Score) -> Score {
@@ -277,6 +605,7 @@ fn kept_grids(s: Score) -> Score {
         regular(1, 3, 0, 0, 1.0, 1.0),
         regular(5, 4, 0, 0, 1.0, 1.0),
         b"regular, kept: at 1.5",
+        b"regular, kept: held at 9",
         b"regular, kept: 3 entries",
         b"regular, kept: 5 axes",
     );
@@ -286,6 +615,7 @@ fn kept_grids(s: Score) -> Score {
         rectilinear(1, 3, 0, 0),
         rectilinear(5, 4, 0, 0),
         b"rectilinear, kept: at 1.5",
+        b"rectilinear, kept: held at 9",
         b"rectilinear, kept: 3 entries",
         b"rectilinear, kept: 5 axes",
     )
@@ -302,6 +632,7 @@ fn all(s: Score, z: &[f64]) -> Score {
     let s = unplaceable(s, z);
     let s = bounds(s);
     let s = stopped(s, z);
+    let s = held_edge(s);
     kept_grids(s)
 }
 

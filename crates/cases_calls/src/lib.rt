@@ -96,10 +96,29 @@ pub fn rectilinear(n: usize, c0: usize, c1: usize, c2: usize) -> Group {
     grid(EdgeMode::Straight, true, n, [c0, c1, c2, 4], [none; 4])
 }
 
-pub fn cubic(g: Group) -> Group {
+// One regular axis of four entries.
+pub fn regular_from(start: f64, step: f64) -> Group {
+    let first = Axis {
+        start,
+        step,
+        count: 4,
+    };
+    grid(EdgeMode::Straight, false, 1, [0; 4], [first; 4])
+}
+
+// The same grid in another mode.
+fn in_mode(g: Group, mode: EdgeMode) -> Group {
     let counts = g.counts;
     let axes = g.axes;
-    grid(EdgeMode::Cubic, g.rectilinear, g.n, counts, axes)
+    grid(mode, g.rectilinear, g.n, counts, axes)
+}
+
+pub fn cubic(g: Group) -> Group {
+    in_mode(g, EdgeMode::Cubic)
+}
+
+pub fn held(g: Group) -> Group {
+    in_mode(g, EdgeMode::Held)
 }
 
 // The same grid with buffers of other lengths.
@@ -157,7 +176,20 @@ pub fn taken(s: Score, g: Group, axes: &[f64], vals: &[f64], name: &[u8]) -> Sco
     told(s, t, name)
 }
 
-// A query on one axis is answered: its place as origin * 8 + class, its value, its slope.
+// What a query on one or two axes is answered: its places as origin * 8 + class, its value, its slopes.
+pub fn answer_of(places: [u64; 2], value: u64, slopes: [u64; 2]) -> Expected {
+    Expected {
+        state: 0,
+        number: 0,
+        axis: 0,
+        places: [places[0], places[1], 0, 0],
+        value,
+        gradient: [slopes[0], slopes[1], 0, 0],
+        next: 0,
+    }
+}
+
+// A query on one axis is answered, alone and in batches.
 pub fn answered(
     s: Score,
     g: Group,
@@ -169,15 +201,7 @@ pub fn answered(
     slope: u64,
     name: &[u8],
 ) -> Score {
-    let e = Expected {
-        state: 0,
-        number: 0,
-        axis: 0,
-        places: [place, 0, 0, 0],
-        value,
-        gradient: [slope, 0, 0, 0],
-        next: 0,
-    };
+    let e = answer_of([place, 0], value, [slope, 0]);
     let mut values = marked_words();
     values[0] = value;
     let mut slopes = marked_words();
@@ -213,19 +237,20 @@ fn ask(g: Group, axes: &[f64], vals: &[f64], x: [f64; 4]) -> Answer {
     grids::ask_regular(n, regular_axes, vals, mode, x)
 }
 
-// A kept grid is asked at 1.5 on one axis: it answers the value where the number is 0, else it refuses by that number, at axis 0.
+// A kept grid is asked at x on one axis: it answers the value where the number is 0, else it refuses by that number, at axis 0.
 pub fn kept(
     s: Score,
     g: Group,
     axes: &[f64],
     vals: &[f64],
+    x: f64,
     number: u64,
     value: u64,
     name: &[u8],
 ) -> Score {
     let mut e = refusal(number, 0);
     e.value = value;
-    let answer = ask(g, axes, vals, [1.5, 0.0, 0.0, 0.0]);
+    let answer = ask(g, axes, vals, [x, 0.0, 0.0, 0.0]);
     told(s, same_value(clear(), e, answer), name)
 }
 

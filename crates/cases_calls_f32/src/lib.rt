@@ -3,6 +3,7 @@
 ghost use mathlib.Core.Path.{_≡_};
 ghost use lib.ListN.{length};
 use cases_calls::Score;
+use cases_calls::answer_of;
 use cases_calls::told;
 use cases_calls::walk;
 use harness_batches_f32::marked_words;
@@ -12,7 +13,6 @@ use harness_calls::same_outcome;
 use harness_calls_f32::call_new;
 use harness_calls_f32::same_single;
 use harness_calls_f32::same_value;
-use harness_corpus::Expected;
 use harness_corpus::refusal;
 use harness_corpus_f32::GroupF32;
 use harness_corpus_f32::part;
@@ -69,10 +69,29 @@ pub fn rectilinear(n: usize, c0: usize, c1: usize, c2: usize) -> GroupF32 {
     grid(EdgeMode::Straight, true, n, [c0, c1, c2, 4], [none; 4])
 }
 
-pub fn cubic(g: GroupF32) -> GroupF32 {
+// One regular axis of four entries.
+pub fn regular_from(start: f32, step: f32) -> GroupF32 {
+    let first = AxisF32 {
+        start,
+        step,
+        count: 4,
+    };
+    grid(EdgeMode::Straight, false, 1, [0; 4], [first; 4])
+}
+
+// The same grid in another mode.
+fn in_mode(g: GroupF32, mode: EdgeMode) -> GroupF32 {
     let counts = g.counts;
     let axes = g.axes;
-    grid(EdgeMode::Cubic, g.rectilinear, g.n, counts, axes)
+    grid(mode, g.rectilinear, g.n, counts, axes)
+}
+
+pub fn cubic(g: GroupF32) -> GroupF32 {
+    in_mode(g, EdgeMode::Cubic)
+}
+
+pub fn held(g: GroupF32) -> GroupF32 {
+    in_mode(g, EdgeMode::Held)
 }
 
 // The same grid with buffers of other lengths.
@@ -130,7 +149,7 @@ pub fn taken(s: Score, g: GroupF32, axes: &[f32], vals: &[f32], name: &[u8]) -> 
     told(s, t, name)
 }
 
-// A query on one axis is answered: its place as origin * 8 + class, its value, its slope.
+// A query on one axis is answered, alone and in batches.
 pub fn answered(
     s: Score,
     g: GroupF32,
@@ -142,15 +161,7 @@ pub fn answered(
     slope: u64,
     name: &[u8],
 ) -> Score {
-    let e = Expected {
-        state: 0,
-        number: 0,
-        axis: 0,
-        places: [place, 0, 0, 0],
-        value,
-        gradient: [slope, 0, 0, 0],
-        next: 0,
-    };
+    let e = answer_of([place, 0], value, [slope, 0]);
     let mut values = marked_words();
     values[0] = value;
     let mut slopes = marked_words();
@@ -186,19 +197,20 @@ fn ask(g: GroupF32, axes: &[f32], vals: &[f32], x: [f32; 4]) -> AnswerF32 {
     grids_f32::ask_regular(n, regular_axes, vals, mode, x)
 }
 
-// A kept grid is asked at 1.5 on one axis: it answers the value where the number is 0, else it refuses by that number, at axis 0.
+// A kept grid is asked at x on one axis: it answers the value where the number is 0, else it refuses by that number, at axis 0.
 pub fn kept(
     s: Score,
     g: GroupF32,
     axes: &[f32],
     vals: &[f32],
+    x: f32,
     number: u64,
     value: u64,
     name: &[u8],
 ) -> Score {
     let mut e = refusal(number, 0);
     e.value = value;
-    let answer = ask(g, axes, vals, [1.5, 0.0, 0.0, 0.0]);
+    let answer = ask(g, axes, vals, [x, 0.0, 0.0, 0.0]);
     told(s, same_value(clear(), e, answer), name)
 }
 

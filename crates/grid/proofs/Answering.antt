@@ -192,13 +192,13 @@ module _ {n : ℕ} {gs : List GridAxis} {values : ℕ} (fit : Fit n gs values) {
   -- one axis more
   module _ (h : axis < n) where
     -- its coordinate is there
-    pub turn-room : (at < length queries) × (at + count < 2 * length queries)
+    pub turn-room : (i ≤ at) × (at < length queries) × (at + count < 2 * length queries)
     turn-room =
         let own = t .own in
         let lent = t .lent in
         let e = t .at-is in
         let m : suc axis * count ≤ n * count = mul-le-mul-right count h in
-        (omega (arith, m, suc-mul axis count), omega (arith, m, suc-mul axis count))
+        (omega arith, omega (arith, m, suc-mul axis count), omega (arith, m, suc-mul axis count))
 
     turn-x : getD queries at nan ≡ queryAt count queries i axis
     turn-x = ap (λ (k : ℕ). getD queries k nan) (t .at-is)

@@ -18,10 +18,11 @@ use Rattle.multicubic.specs.declared.Answer.the-variants.{Value}
 use Rattle.multicubic.specs.Grid.{product, _then_}
 use Rattle.multicubic.specs.Answers.{answered}
 use Rattle.multicubic.specs.Place.{originOf, Placed}
+use Rattle.multicubic.proofs.Nodes.{AtNode}
 use Rattle.reduction.specs.Value.{stridesOf, offset, shifted, valueAt, reduceOf}
 use Rattle.reduction.specs.Nodes.{InBlock}
 use Rattle.reduction.proofs.Blocks.{Held, value-at-node, OneAtEach}
-use Rattle.grid.specs.Query.{GridAxis, Grid, places, located, find, countsOf, gridCounts, originsOf, rowsOf, blockOf, valueOf, cases, valueAnswer}
+use Rattle.grid.specs.Query.{GridAxis, outcome, Grid, places, located, find, countsOf, gridCounts, originsOf, rowsOf, blockOf, valueOf, cases, valueAnswer}
 use Rattle.grid.specs.Nodes.{AtIndex, stored, FiniteValues, Fits}
 use Rattle.grid.proofs.Premises.{NodeLaws, Long, Sized}
 
@@ -80,28 +81,40 @@ pub record FoundAt (axis : ℕ) (gs : List GridAxis) (is : List ℕ) (query : �
   pub inside : InBlock (length ps) js
   pub room : Room (originsOf ps) (countsOf gs)
 
-module _ (f : Format) (query : ℕ → Float) (typed : (a : ℕ) → T (fits f (query a))) where
-  pub found-at : (axis : ℕ) (gs : List GridAxis) (is : List ℕ) → NodeLaws f gs → Long (countsOf gs) → AtIndex axis gs is query → FoundAt axis gs is query
-  found-at axis [] [] laws long at = record { ps = []; found = refl; js = []; rows = tt; indices = refl; inside = tt; room = tt }
-  found-at axis [] (i ∷ is) laws long at = absurd at
-  found-at axis (g ∷ gs) [] laws long at = absurd at
-  found-at axis (g ∷ gs) (i ∷ is) laws long at =
-      let a = laws .0 i (at .0) (query axis) (typed axis) (at .1) .1 in
-      let l = laws .0 i (at .0) (query axis) (typed axis) (at .1) .0 in
-      let r = found-at (suc axis) gs is (laws .1) (long .1) (at .2) in
-      let o = a .found .place .origin in
-      let most : o ≤ g .count - 4 = subst (λ (k : ℕ). k ≤ g .count - 4) (sym (ap (λ p. p .origin) (a .place-is))) (origin-most (g .count) l) in
-      let four : 4 ≤ g .count = long .0 in
-      let low : o ≤ i = a .low in
-      record {
-        ps = a .found ∷ r .ps;
-        found = λ k. located axis (a .is k) (r .found k);
-        js = (i - o) ∷ r .js;
-        rows = (a .row, r .rows);
-        indices = λ k. (let e : o + (i - o) ≡ i = omega arith in e k) ∷ r .indices k;
-        inside = (a .row .inside, r .inside);
-        room = (omega arith, r .room);
-      }
+-- on every axis the row that is one at the index's place
+abbrev pub AtEach : ℕ → List GridAxis → List ℕ → (ℕ → Float) → Type 0
+AtEach axis [] [] query = Unit
+AtEach axis (g ∷ gs) (i ∷ is) query = ((l : ℤ) × AtNode (g .count) l i (outcome g (query axis))) × AtEach (suc axis) gs is query
+AtEach axis [] (i ∷ is) query = ⊥
+AtEach axis (g ∷ gs) [] query = ⊥
+
+-- it is there at a node, by the axes' laws
+pub at-each : (f : Format) (query : ℕ → Float) → ((a : ℕ) → T (fits f (query a))) → (axis : ℕ) (gs : List GridAxis) (is : List ℕ) → NodeLaws f gs → AtIndex axis gs is query → AtEach axis gs is query
+at-each f query typed axis [] [] laws at = tt
+at-each f query typed axis [] (i ∷ is) laws at = absurd at
+at-each f query typed axis (g ∷ gs) [] laws at = absurd at
+at-each f query typed axis (g ∷ gs) (i ∷ is) laws at = (laws .0 i (at .0) (query axis) (typed axis) (at .1), at-each f query typed (suc axis) gs is (laws .1) (at .2))
+
+pub found-at : (query : ℕ → Float) (axis : ℕ) (gs : List GridAxis) (is : List ℕ) → Long (countsOf gs) → AtEach axis gs is query → FoundAt axis gs is query
+found-at query axis [] [] long at = record { ps = []; found = refl; js = []; rows = tt; indices = refl; inside = tt; room = tt }
+found-at query axis [] (i ∷ is) long at = absurd at
+found-at query axis (g ∷ gs) [] long at = absurd at
+found-at query axis (g ∷ gs) (i ∷ is) long at =
+    let a = at .0 .1 in
+    let r = found-at query (suc axis) gs is (long .1) (at .1) in
+    let o = a .found .place .origin in
+    let most : o ≤ g .count - 4 = subst (λ (k : ℕ). k ≤ g .count - 4) (sym (ap (λ p. p .origin) (a .place-is))) (origin-most (g .count) (at .0 .0)) in
+    let four : 4 ≤ g .count = long .0 in
+    let low : o ≤ i = a .low in
+    record {
+      ps = a .found ∷ r .ps;
+      found = λ k. located axis (a .is k) (r .found k);
+      js = (i - o) ∷ r .js;
+      rows = (a .row, r .rows);
+      indices = λ k. (let e : o + (i - o) ≡ i = omega arith in e k) ∷ r .indices k;
+      inside = (a .row .inside, r .inside);
+      room = (omega arith, r .room);
+    }
 
 -- ---- the value there
 pub answer-found : (f : Format) (g : Grid) (query : ℕ → Float) (ps : List Placed) → g .checked ≡ Accepted → find 0 (g .axes) query ≡ places ps → valueAnswer f g query ≡ Value (valueOf f (gridCounts g) (g .vals) ps)
@@ -121,19 +134,17 @@ module _ (f : Format) (g : Grid) (is : List ℕ) (query : ℕ → Float) (sized 
       (value-at-node f (rowsOf (h .ps)) (h .js) (g .vals) (stridesOf (gridCounts g)) (originsOf (h .ps)) block-held (h .rows)
       (block-held (h .js) (subst (λ (n : ℕ). InBlock n (h .js)) (sym (rows-length (h .ps))) (h .inside)) .0))
 
--- what holds of a grid within the premises, and of a query at its node
+-- what holds of a grid within the premises, and of a query whose rows are those of a node
 pub record NodeCase (f : Format) (g : Grid) (is : List ℕ) (query : ℕ → Float) : Type 0 where
   pub sized : Sized g
   pub whole : FiniteValues (g .vals)
   pub held : Fits f (g .vals)
-  pub laws : NodeLaws f (g .axes)
-  pub typed : (a : ℕ) → T (fits f (query a))
-  pub at : AtIndex 0 (g .axes) is query
+  pub rows : AtEach 0 (g .axes) is query
 
 -- its places, and the value at them: the number stored there, the sign of zero aside
 pub node-value : (f : Format) (g : Grid) (is : List ℕ) (query : ℕ → Float) → NodeCase f g is query → (ps : List Placed) × (find 0 (g .axes) query ≡ places ps) × T (eq (valueOf f (gridCounts g) (g .vals) ps) (stored g is))
 node-value f g is query c =
-    let h = found-at f query (c .typed) 0 (g .axes) is (c .laws) (c .sized .long) (c .at) in
+    let h = found-at query 0 (g .axes) is (c .sized .long) (c .rows) in
     (h .ps, h .found, value-stored f g is query (c .sized) (c .whole) (c .held) h)
 
 -- the answer is no refusal, and is that number

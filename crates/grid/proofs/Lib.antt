@@ -7,6 +7,8 @@ pub mod AtNodes
 pub mod OfBlocks
 pub mod Batches
 pub mod Fit
+pub mod Edges
+pub mod AsUsed
 pub mod Answering
 pub mod Singles
 pub mod Running

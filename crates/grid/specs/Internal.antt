@@ -1,15 +1,18 @@
 -- What internal functions ask of each other and tell each other: no definition of the specification's, and none of it need be believed, since the
 -- entry points' contracts do not mention it.
-use Prim.Native.Nat.{ℕ, _+_, _*_, _≤_, _<_}
+use Prim.Native.Nat.{ℕ, _+_, _-_, _*_, _≤_, _<_}
 use mathlib.Core.Path.{_≡_}
-use mathlib.Core.Bool.{Bool, false, cond}
-use mathlib.Core.List.{List, []}
+use mathlib.Core.Bool.{Bool, false, cond, _||_}
+use mathlib.Core.List.{List, [], _∷_}
 use lib.Dec.{eqb}
 use lib.ListN.{length, getD, set}
 use lib.Ieee.{Float, nan, Format}
 use Rattle.ieee.specs.Numbers.{zero as nought}
 use Rattle.multicubic.specs.declared.Answer.{Answer}
+use Rattle.multicubic.specs.declared.EdgeMode.{EdgeMode}
+use Rattle.multicubic.specs.declared.EdgeMode.the-variants.{Cubic, Straight, Held}
 use Rattle.multicubic.specs.declared.Loc.the-variants.{Unplaceable}
+use Rattle.multicubic.specs.declared.Marks.{Marks}
 use Rattle.multicubic.specs.declared.Outcome.{Outcome}
 use Rattle.multicubic.specs.declared.Outcome.the-variants.{Accepted, Refused}
 use Rattle.multicubic.specs.declared.Place.{Place}
@@ -18,7 +21,7 @@ use Rattle.multicubic.specs.Answers.{answered}
 use Rattle.multicubic.specs.Place.{Placed}
 use Rattle.grid.specs.declared.Quantity.{Quantity}
 use Rattle.grid.specs.declared.Quantity.the-variants.{Value, Component}
-use Rattle.grid.specs.Query.{GridAxis, countsOf, Found, cases, find, valueOf, componentsOf, foundComponents, foundOutcome, fourOf, fourPlaces}
+use Rattle.grid.specs.Query.{GridAxis, below, above, countsOf, Found, cases, find, valueOf, componentsOf, foundComponents, foundOutcome, fourOf, fourPlaces}
 use Rattle.grid.specs.Batch.{foundAt}
 
 -- ---- a query
@@ -38,6 +41,20 @@ isComponent (Component d) axis = eqb axis d
 -- an axis's row at a place: its derivative weights, or its weights
 abbrev pub rowAt : GridAxis → Float → Place → Bool → List Float
 rowAt g x p derivative = cond derivative (g .derivatives x p) (g .weights x p)
+
+-- at which ends the setting replaces a query
+abbrev pub replacedIn : EdgeMode → GridAxis → Float → Marks
+replacedIn Cubic g given = record { below = false; above = false }
+replacedIn Straight g given = record { below = false; above = false }
+replacedIn Held g given = record { below = below g given; above = above g given }
+
+-- the query as used
+abbrev pub usedBy : Marks → GridAxis → Float → Float
+usedBy replaced g given = cond (replaced .below) (g .node 0) (cond (replaced .above) (g .node (g .count - 1)) given)
+
+-- its row: four +0 in place of a replaced query's derivative weights
+abbrev pub rowBy : Marks → GridAxis → Float → Place → Bool → List Float
+rowBy replaced g used p derivative = cond derivative (cond (replaced .below || replaced .above) (nought ∷ nought ∷ nought ∷ nought ∷ []) (g .derivatives used p)) (g .weights used p)
 
 -- a component is asked for one of the n axes
 abbrev pub Asked : ℕ → Quantity → Type 0

@@ -2,4 +2,5 @@
 pub mod Query
 pub mod Batch
 pub mod Nodes
+pub mod Edges
 pub mod Internal

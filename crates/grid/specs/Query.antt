@@ -1,12 +1,15 @@
--- One query on a grid: its places, its value and its gradient (clauses 3.6, 5.4 and 6.2).
-use Prim.Native.Nat.{ℕ, suc}
+-- One query on a grid: the axes in its setting (clause 3.7), its places, its value and its gradient (clauses 3.6, 5.4 and 6.2).
+use Prim.Native.Nat.{ℕ, suc, _-_}
+use mathlib.Core.Bool.{Bool, false, true, cond, _||_}
 use mathlib.Core.List.{List, [], _∷_, _++_, map}
 use lib.ListN.{getD, take}
-use lib.Ieee.{Float, nan, Format}
+use lib.Ieee.{Float, nan, Format, lt}
 use Rattle.ieee.specs.Numbers.{zero}
 use Rattle.multicubic.specs.declared.Outcome.{Outcome}
 use Rattle.multicubic.specs.declared.Outcome.the-variants.{Accepted, Refused}
 use Rattle.multicubic.specs.declared.Answer.{Answer}
+use Rattle.multicubic.specs.declared.EdgeMode.{EdgeMode}
+use Rattle.multicubic.specs.declared.EdgeMode.the-variants.{Cubic, Straight, Held}
 use Rattle.multicubic.specs.Answers.{carried, answered}
 use Rattle.multicubic.specs.declared.Place.{Place}
 use Rattle.multicubic.specs.declared.Loc.{Loc}
@@ -28,6 +31,35 @@ pub record GridAxis : Type 0 where
 abbrev pub outcome : GridAxis → Float → AxisOutcome
 outcome g x = outcomeAt (g .weights x) (g .derivatives x) (g .loc x)
 
+-- ---- Clause 3.7: the setting
+-- a query as given, compared as a number with the first node, and with the last
+abbrev pub below : GridAxis → Float → Bool
+below g given = lt given (g .node 0)
+
+abbrev pub above : GridAxis → Float → Bool
+above g given = lt (g .node (g .count - 1)) given
+
+-- the query as used where the edge is held: past an end, the end's node stands in its place
+abbrev pub hold : GridAxis → Float → Float
+hold g given = cond (below g given) (g .node 0) (cond (above g given) (g .node (g .count - 1)) given)
+
+-- the axis that holds its edge: it places and weighs the query as used, and its slope is four +0 where that is not the query as given
+abbrev pub heldAxis : GridAxis → GridAxis
+heldAxis g = record {
+  count = g .count;
+  loc = λ given. g .loc (hold g given);
+  weights = λ given. g .weights (hold g given);
+  derivatives = λ given p. cond (below g given || above g given) (zero ∷ zero ∷ zero ∷ zero ∷ []) (g .derivatives (hold g given) p);
+  node = g .node;
+}
+
+-- an axis in each setting, from the cubic one (false) and the straight one (true)
+abbrev pub edgeAxis : EdgeMode → (Bool → GridAxis) → GridAxis
+edgeAxis Cubic axis = axis false
+edgeAxis Straight axis = axis true
+edgeAxis Held axis = heldAxis (axis false)
+
+-- ---- Clauses 3.6, 5.4 and 6.2
 abbrev pub countsOf : List GridAxis → List ℕ
 countsOf gs = map (λ (g : GridAxis). g .count) gs
 

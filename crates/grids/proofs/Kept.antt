@@ -35,7 +35,7 @@ values-append [] vs = refl
 values-append (c ∷ cs) vs = ap (λ (us : List Val). c .1 ∷ us) (values-append cs vs)
 
 -- ---- a struct: its MIR type, its machine value, and that nothing is said of it at exit
-pub record Held {M : Type 1} (𝓤 : URA M) (H : Heap 𝓤) (A : Atoms 𝓤) (n : ℕ) : Type 2 where
+pub record Kept {M : Type 1} (𝓤 : URA M) (H : Heap 𝓤) (A : Atoms 𝓤) (n : ℕ) : Type 2 where
   pub row : Lfts n → RattleType
   pub symbol : Sym
   pub parts : Tys
@@ -47,7 +47,7 @@ pub record Held {M : Type 1} (𝓤 : URA M) (H : Heap 𝓤) (A : Atoms 𝓤) (n 
 
 -- and its first fields, as parameters of a plain call: what the struct owns can be lent as them
 pub record Kind {M : Type 1} (𝓤 : URA M) (H : Heap 𝓤) (A : Atoms 𝓤) (n : ℕ) : Type 2 where
-  pub of : Held 𝓤 H A n
+  pub of : Kept 𝓤 H A n
   pub slots : List (Slot n)
   -- the types of the locals that the fields are read into
   pub reads : List Ty

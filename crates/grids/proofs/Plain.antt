@@ -12,7 +12,7 @@ use denote.Ref.{NamedLft}
 use denote.Struct.Struct.{toTys}
 use denote.Struct.Declared as D
 use Rattle.multicubic.specs.declared.EdgeMode.{EdgeMode}
-use Rattle.multicubic.specs.declared.EdgeMode.the-variants.{Cubic, Straight}
+use Rattle.multicubic.specs.declared.EdgeMode.the-variants.{Cubic, Straight, Held}
 use Rattle.multicubic.proofs.EdgeMode as E
 use Rattle.multicubic.proofs.EdgeMode.Laws as E′
 
@@ -20,10 +20,12 @@ use Rattle.multicubic.proofs.EdgeMode.Laws as E′
 pub mode-is : (m : EdgeMode) → Is E.the-row m (E′.lowered m ∷ [])
 mode-is Cubic = ([], (refl, (tt, (refl, tt))))
 mode-is Straight = ([], (refl, (tt, (refl, tt))))
+mode-is Held = ([], (refl, (tt, (refl, tt))))
 
 pub mode-same : (m : EdgeMode) → E′.the-field-laws .val (E.the-field .into m) ≡ E′.lowered m
 mode-same Cubic = refl
 mode-same Straight = refl
+mode-same Held = refl
 
 -- ---- an array of numbers: a field stands at `map (λ n. n) ns`, a parameter at ns
 pub counts-same : (ns : List ℕ) → map (λ n. n) ns ≡ ns

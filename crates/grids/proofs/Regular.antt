@@ -34,7 +34,7 @@ use Rattle.grids.proofs.Plain.{mode-is, mode-same, by-name, partsOf}
 use Rattle.grids.proofs.Locals.{slice, Typed, fields}
 use Rattle.grids.proofs.Together.{Related, owning, owns-first}
 use Rattle.grids.proofs.Walks.{Fit}
-use Rattle.grids.proofs.Kept.{Held, Kind}
+use Rattle.grids.proofs.Kept.{Kept, Kind}
 use Rattle.grids.proofs.Made.{Maker, said-of}
 use Rattle.grids.proofs.MulticubicRegular as T
 use Rattle.grids.proofs.MulticubicRegular.Laws as T′
@@ -48,8 +48,8 @@ module _ (d : MulticubicRegular) where
   abbrev v-axes : Val
   v-axes = arrayVal (map (λ a. X′.lowered a) (d .axes))
 
-  abbrev held : Vals
-  held = vcons (vint w64 (d .«axis_count»)) (vcons v-axes (vcons (sliceVal (d .vals .ptr) (length (d .vals .now))) (vcons (E′.lowered (d .mode)) vnil)))
+  abbrev kept : Vals
+  kept = vcons (vint w64 (d .«axis_count»)) (vcons v-axes (vcons (sliceVal (d .vals .ptr) (length (d .vals .now))) (vcons (E′.lowered (d .mode)) vnil)))
 
 module _ (n : ℕ) (ok : AllWithin n (0 ∷ [])) where
   abbrev row : Lfts n → RattleType
@@ -74,14 +74,14 @@ module _ (n : ℕ) (ok : AllWithin n (0 ∷ [])) where
   abbrev spell : (κs : Lfts n) → Spells (typesAt all κs)
   spell κs = (uint-vals w64, (array-vals (λ a. X′.lowered a ∷ []), (slice-vals, ((λ m. E′.lowered m ∷ []), tt))))
 
-  module _ {M : Type 1} (𝓤 : URA M) (H : Heap 𝓤) (A : Atoms 𝓤) (W : Given 𝓤 H A) (κs : Lfts n) (d : MulticubicRegular) (is : Is (row κs) d (vstruct (held d) ∷ [])) where
-    pub fit : Fit (T′.mir (named 0)) (vstruct (held d))
+  module _ {M : Type 1} (𝓤 : URA M) (H : Heap 𝓤) (A : Atoms 𝓤) (W : Given 𝓤 H A) (κs : Lfts n) (d : MulticubicRegular) (is : Is (row κs) d (vstruct (kept d) ∷ [])) where
+    pub fit : Fit (T′.mir (named 0)) (vstruct (kept d))
     fit = LL.lawful (D κs) (L κs) 𝓤 H A W .typed d _ is .0
 
     axes-are : Is (Array X.the-row 4) (d .axes) (v-axes d ∷ [])
     axes-are = to-param 4 (d .axes) _ (LL.owed (D κs) (L κs) d _ is .1 .0)
 
-    pub fits : (ℓ : Lifetime) → Typed (fields (held d) 0 (tyInt w64 ∷ tyArray X′.mir 4 ∷ slice binary64 ℓ imm ∷ E′.mir ∷ []))
+    pub fits : (ℓ : Lifetime) → Typed (fields (kept d) 0 (tyInt w64 ∷ tyArray X′.mir 4 ∷ slice binary64 ℓ imm ∷ E′.mir ∷ []))
     fits ℓ = (
       (tt, fit .1 .0),
       (
@@ -90,11 +90,11 @@ module _ (n : ℕ) (ok : AllWithin n (0 ∷ [])) where
       ),
     )
 
-    pub lends : ent 𝓤 (sem 𝓤 H A (row κs .own d (vstruct (held d) ∷ []))) (sem 𝓤 H A (owning κs all (spell κs) (args κs d)))
+    pub lends : ent 𝓤 (sem 𝓤 H A (row κs .own d (vstruct (kept d) ∷ []))) (sem 𝓤 H A (owning κs all (spell κs) (args κs d)))
     lends =
         let vd : Values (D κs .parts) = (d .«axis_count», (d .axes, (d .vals, (d .mode, tt)))) in
-        qed W (‵ (row κs .own d (vstruct (held d) ∷ [])) ∷ []) ∵
-        use1 W (given _ (‵ (all-own (D κs .parts) (L κs) vd))) (own-open 𝓤 H A W (D κs) (L κs) vd (vstruct (held d))) $
+        qed W (‵ (row κs .own d (vstruct (kept d) ∷ [])) ∷ []) ∵
+        use1 W (given _ (‵ (all-own (D κs .parts) (L κs) vd))) (own-open 𝓤 H A W (D κs) (L κs) vd (vstruct (kept d))) $
         learn ! (λ _. fsplit ! $ drop ! $ fsplit ! $ drop ! $ fsplit ! $ move ! (1 ∷ []) $ drop ! $
         nothing ! $ owned ! E.the-row (Is E.the-row) (EL.makes E.the-type E′.the-plain 𝓤 H A) (d .mode) _ (mode-is (d .mode)) $ fjoin ! $ move ! (1 ∷ 0 ∷ []) $ fjoin ! $
         owned ! (Array X.the-row 4) (Is (Array X.the-row 4)) (array-makes 𝓤 H A W X.the-row (LL.makes X.the-type X′.the-plain 𝓤 H A) 4) (d .axes) _ axes-are $ fjoin ! $
@@ -113,7 +113,7 @@ module _ (n : ℕ) (ok : AllWithin n (0 ∷ [])) where
     with-vals us w = vstruct (vcons (vint w64 (a .0)) (vcons (arrayVal us) (vcons (sliceVal (a .1 .1 .0 .ptr) (length (a .1 .1 .0 .now))) (vcons w vnil))))
 
     pub shuts : Related κs all (spell κs) a
-        → ent 𝓤 (sem 𝓤 H A (owning κs all (spell κs) a)) (sem 𝓤 H A (row κs .own (made κs a) (vstruct (held (made κs a)) ∷ [])))
+        → ent 𝓤 (sem 𝓤 H A (owning κs all (spell κs) a)) (sem 𝓤 H A (row κs .own (made κs a) (vstruct (kept (made κs a)) ∷ [])))
     shuts are =
         qed W (‵ (owning κs all (spell κs) a) ∷ []) ∵ fsplit ! $ drop ! $ fsplit ! $ drop ! $ fsplit ! $ move ! (1 ∷ []) $ drop ! $
         nothing ! $ owned ! E.the-row (Is E.the-row) (EL.makes E.the-type E′.the-plain 𝓤 H A) (a .1 .1 .1 .0) _ (mode-is (a .1 .1 .1 .0)) $
@@ -127,12 +127,12 @@ module _ (n : ℕ) (ok : AllWithin n (0 ∷ [])) where
         rewrite ! 0 (λ (w : Val). ‵ (row κs .own (made κs a) (with-vals (map (λ x. X′.lowered x) (a .1 .0)) w ∷ []))) (mode-same (a .1 .1 .1 .0)) refl $ done !
 
   module _ {M : Type 1} (𝓤 : URA M) (H : Heap 𝓤) (A : Atoms 𝓤) (W : Given 𝓤 H A) where
-    abbrev pub held-regular : Held 𝓤 H A n
-    held-regular = record {
+    abbrev pub kept-regular : Kept 𝓤 H A n
+    kept-regular = record {
       row = row;
       symbol = T.the-type (by-name (named 0)) .name;
       parts = partsOf (T.the-type (by-name (named 0)));
-      values-of = λ κs d. held d;
+      values-of = λ κs d. kept d;
       tells = λ κs. T′.lowers (namedLft n 0 ok κs) .val-is;
       fit = fit 𝓤 H A W;
       last = λ κs d. tt;
@@ -141,7 +141,7 @@ module _ (n : ℕ) (ok : AllWithin n (0 ∷ [])) where
 
     abbrev pub regular : Kind 𝓤 H A n
     regular = record {
-      of = held-regular;
+      of = kept-regular;
       slots = all;
       reads = tyInt w64 ∷ tyArray X′.mir 4 ∷ slice binary64 erased imm ∷ E′.mir ∷ [];
       has = ((_, _, refl), ((_, _, refl), ((_, _, refl), ((_, _, refl), tt))));
@@ -155,7 +155,7 @@ module _ (n : ℕ) (ok : AllWithin n (0 ∷ [])) where
     -- without the mode, which `new` is not given
     abbrev pub regular-sizes : Kind 𝓤 H A n
     regular-sizes = record {
-      of = held-regular;
+      of = kept-regular;
       slots = sizes;
       reads = tyInt w64 ∷ tyArray X′.mir 4 ∷ slice binary64 erased imm ∷ [];
       has = ((_, _, refl), ((_, _, refl), ((_, _, refl), tt)));

@@ -1,2 +1,2 @@
 -- The grid that a caller keeps, as the calls see it.
-pub mod Held
+pub mod Kept

@@ -5,12 +5,11 @@ ghost use lib.ListN.{length};
 ghost use lib.Ieee.{binary64};
 ghost use Rattle.multicubic.specs.Answers.{Says, answerOutcome, valueIn};
 ghost use Rattle.multicubic.specs.Same.{asAnswer};
-ghost use Rattle.multicubic.specs.declared.EdgeMode.{EdgeMode};
 ghost use Rattle.grid.specs.Query.{outcomeOf, at, placeAnswer, valueAnswer, valueCarried, gradientAnswer};
 ghost use Rattle.grid.specs.Batch.{interpOutcome, interpBuffer, gradOutcome, gradBuffer};
 ghost use Rattle.regular_query.specs.Grid.{checksOf as regularChecks, gridOf as regularOf};
 ghost use Rattle.rectilinear_query.specs.Grid.{checksOf as rectilinearChecks, gridOf as rectilinearOf};
-ghost use Rattle.grids.specs.Held.{heldRegular, heldRectilinear};
+ghost use Rattle.grids.specs.Kept.{keptRegular, keptRectilinear};
 use multicubic::Answer;
 use multicubic::Axis;
 use multicubic::EdgeMode;
@@ -60,35 +59,29 @@ pub fn regular_new<'a>(g: MulticubicRegular<'a>) -> Outcome
     regular::new(g.axis_count, g.axes, g.vals)
 }
 
-// The place of a query on the grid, whatever its mode.
+// The place of a query on the grid, in its mode.
 pub fn regular_get_loc<'a>(g: MulticubicRegular<'a>, x: [f64; 4]) -> PlaceAnswer
-    ensures { λ r. ⌜
-        ((mode : EdgeMode) → r .outcome ≡ outcomeOf (regularOf binary64 (g .entry .«axis_count») (g .entry .axes) (now (g .entry .vals)) mode) (at x))
-        ⌝ }
-    ensures { λ r. ⌜
-        ((mode : EdgeMode) → r .places ≡ placeAnswer (regularOf binary64 (g .entry .«axis_count») (g .entry .axes) (now (g .entry .vals)) mode) (at x))
-        ⌝ }
-    ensures { λ r. ⌜
-        ((mode : EdgeMode) → Says (r .outcome) (outcomeOf (regularOf binary64 (g .entry .«axis_count») (g .entry .axes) (now (g .entry .vals)) mode) (at x)))
-        ⌝ }
+    ensures { λ r. ⌜ r .outcome ≡ outcomeOf (keptRegular binary64 (g .entry)) (at x) ⌝ }
+    ensures { λ r. ⌜ r .places ≡ placeAnswer (keptRegular binary64 (g .entry)) (at x) ⌝ }
+    ensures { λ r. ⌜ Says (r .outcome) (outcomeOf (keptRegular binary64 (g .entry)) (at x)) ⌝ }
 {
-    regular::get_loc(g.axis_count, g.axes, g.vals, x)
+    regular::get_loc(g.axis_count, g.axes, g.vals, g.mode, x)
 }
 
 // The value at a query, or the refusal.
 pub fn regular_interp_one<'a>(g: MulticubicRegular<'a>, x: [f64; 4]) -> Answer
-    ensures { λ r. ⌜ asAnswer r ≡ valueAnswer binary64 (heldRegular binary64 (g .entry)) (at x) ⌝ }
-    ensures { λ r. ⌜ Says (answerOutcome (asAnswer r)) (outcomeOf (heldRegular binary64 (g .entry)) (at x)) ⌝ }
-    ensures { λ r. ⌜ valueIn (asAnswer r) ≡ valueCarried binary64 (heldRegular binary64 (g .entry)) (at x) ⌝ }
+    ensures { λ r. ⌜ asAnswer r ≡ valueAnswer binary64 (keptRegular binary64 (g .entry)) (at x) ⌝ }
+    ensures { λ r. ⌜ Says (answerOutcome (asAnswer r)) (outcomeOf (keptRegular binary64 (g .entry)) (at x)) ⌝ }
+    ensures { λ r. ⌜ valueIn (asAnswer r) ≡ valueCarried binary64 (keptRegular binary64 (g .entry)) (at x) ⌝ }
 {
     regular::interp_one(g.axis_count, g.axes, g.vals, g.mode, x)
 }
 
 // The gradient at a query, or the refusal.
 pub fn regular_interp_one_grad<'a>(g: MulticubicRegular<'a>, x: [f64; 4]) -> GradientAnswer
-    ensures { λ r. ⌜ r .outcome ≡ outcomeOf (heldRegular binary64 (g .entry)) (at x) ⌝ }
-    ensures { λ r. ⌜ r .gradient ≡ gradientAnswer binary64 (heldRegular binary64 (g .entry)) (at x) ⌝ }
-    ensures { λ r. ⌜ Says (r .outcome) (outcomeOf (heldRegular binary64 (g .entry)) (at x)) ⌝ }
+    ensures { λ r. ⌜ r .outcome ≡ outcomeOf (keptRegular binary64 (g .entry)) (at x) ⌝ }
+    ensures { λ r. ⌜ r .gradient ≡ gradientAnswer binary64 (keptRegular binary64 (g .entry)) (at x) ⌝ }
+    ensures { λ r. ⌜ Says (r .outcome) (outcomeOf (keptRegular binary64 (g .entry)) (at x)) ⌝ }
 {
     regular::interp_one_grad(g.axis_count, g.axes, g.vals, g.mode, x)
 }
@@ -99,9 +92,9 @@ pub fn regular_interp<'a, 'b, 'c>(
     queries: &'b [f64],
     out: &'c mut [f64],
 ) -> Outcome
-    ensures { λ r. ⌜ r ≡ interpOutcome binary64 (heldRegular binary64 (g .entry)) (now (queries .entry)) (now (out .entry)) ⌝ }
-    ensures { λ r. ⌜ now (out .exit) ≡ interpBuffer binary64 (heldRegular binary64 (g .entry)) (now (queries .entry)) (now (out .entry)) ⌝ }
-    ensures { λ r. ⌜ Says r (interpOutcome binary64 (heldRegular binary64 (g .entry)) (now (queries .entry)) (now (out .entry))) ⌝ }
+    ensures { λ r. ⌜ r ≡ interpOutcome binary64 (keptRegular binary64 (g .entry)) (now (queries .entry)) (now (out .entry)) ⌝ }
+    ensures { λ r. ⌜ now (out .exit) ≡ interpBuffer binary64 (keptRegular binary64 (g .entry)) (now (queries .entry)) (now (out .entry)) ⌝ }
+    ensures { λ r. ⌜ Says r (interpOutcome binary64 (keptRegular binary64 (g .entry)) (now (queries .entry)) (now (out .entry))) ⌝ }
 {
     regular_batch::interp(g.axis_count, g.axes, g.vals, g.mode, queries, out)
 }
@@ -112,9 +105,9 @@ pub fn regular_interp_grad<'a, 'b, 'c>(
     queries: &'b [f64],
     out: &'c mut [f64],
 ) -> Outcome
-    ensures { λ r. ⌜ r ≡ gradOutcome binary64 (heldRegular binary64 (g .entry)) (now (queries .entry)) (now (out .entry)) ⌝ }
-    ensures { λ r. ⌜ now (out .exit) ≡ gradBuffer binary64 (heldRegular binary64 (g .entry)) (now (queries .entry)) (now (out .entry)) ⌝ }
-    ensures { λ r. ⌜ Says r (gradOutcome binary64 (heldRegular binary64 (g .entry)) (now (queries .entry)) (now (out .entry))) ⌝ }
+    ensures { λ r. ⌜ r ≡ gradOutcome binary64 (keptRegular binary64 (g .entry)) (now (queries .entry)) (now (out .entry)) ⌝ }
+    ensures { λ r. ⌜ now (out .exit) ≡ gradBuffer binary64 (keptRegular binary64 (g .entry)) (now (queries .entry)) (now (out .entry)) ⌝ }
+    ensures { λ r. ⌜ Says r (gradOutcome binary64 (keptRegular binary64 (g .entry)) (now (queries .entry)) (now (out .entry))) ⌝ }
 {
     regular_batch::interp_grad(g.axis_count, g.axes, g.vals, g.mode, queries, out)
 }
@@ -161,29 +154,20 @@ pub fn rectilinear_new<'a, 'b>(g: MulticubicRectilinear<'a, 'b>) -> Outcome
     rectilinear::new(g.axis_count, g.counts, g.axes, g.vals)
 }
 
-// The place of a query on the grid, whatever its mode.
+// The place of a query on the grid, in its mode.
 pub fn rectilinear_get_loc<'a, 'b>(g: MulticubicRectilinear<'a, 'b>, x: [f64; 4]) -> PlaceAnswer
-    ensures { λ r. ⌜
-        ((mode : EdgeMode) → r .outcome ≡ outcomeOf
-        (rectilinearOf binary64 (g .entry .«axis_count») (g .entry .counts) (now (g .entry .axes)) (now (g .entry .vals)) mode) (at x))
-        ⌝ }
-    ensures { λ r. ⌜
-        ((mode : EdgeMode) → r .places ≡ placeAnswer
-        (rectilinearOf binary64 (g .entry .«axis_count») (g .entry .counts) (now (g .entry .axes)) (now (g .entry .vals)) mode) (at x))
-        ⌝ }
-    ensures { λ r. ⌜
-        ((mode : EdgeMode) → Says (r .outcome)
-        (outcomeOf (rectilinearOf binary64 (g .entry .«axis_count») (g .entry .counts) (now (g .entry .axes)) (now (g .entry .vals)) mode) (at x)))
-        ⌝ }
+    ensures { λ r. ⌜ r .outcome ≡ outcomeOf (keptRectilinear binary64 (g .entry)) (at x) ⌝ }
+    ensures { λ r. ⌜ r .places ≡ placeAnswer (keptRectilinear binary64 (g .entry)) (at x) ⌝ }
+    ensures { λ r. ⌜ Says (r .outcome) (outcomeOf (keptRectilinear binary64 (g .entry)) (at x)) ⌝ }
 {
-    rectilinear::get_loc(g.axis_count, g.counts, g.axes, g.vals, x)
+    rectilinear::get_loc(g.axis_count, g.counts, g.axes, g.vals, g.mode, x)
 }
 
 // The value at a query, or the refusal.
 pub fn rectilinear_interp_one<'a, 'b>(g: MulticubicRectilinear<'a, 'b>, x: [f64; 4]) -> Answer
-    ensures { λ r. ⌜ asAnswer r ≡ valueAnswer binary64 (heldRectilinear binary64 (g .entry)) (at x) ⌝ }
-    ensures { λ r. ⌜ Says (answerOutcome (asAnswer r)) (outcomeOf (heldRectilinear binary64 (g .entry)) (at x)) ⌝ }
-    ensures { λ r. ⌜ valueIn (asAnswer r) ≡ valueCarried binary64 (heldRectilinear binary64 (g .entry)) (at x) ⌝ }
+    ensures { λ r. ⌜ asAnswer r ≡ valueAnswer binary64 (keptRectilinear binary64 (g .entry)) (at x) ⌝ }
+    ensures { λ r. ⌜ Says (answerOutcome (asAnswer r)) (outcomeOf (keptRectilinear binary64 (g .entry)) (at x)) ⌝ }
+    ensures { λ r. ⌜ valueIn (asAnswer r) ≡ valueCarried binary64 (keptRectilinear binary64 (g .entry)) (at x) ⌝ }
 {
     rectilinear::interp_one(g.axis_count, g.counts, g.axes, g.vals, g.mode, x)
 }
@@ -193,9 +177,9 @@ pub fn rectilinear_interp_one_grad<'a, 'b>(
     g: MulticubicRectilinear<'a, 'b>,
     x: [f64; 4],
 ) -> GradientAnswer
-    ensures { λ r. ⌜ r .outcome ≡ outcomeOf (heldRectilinear binary64 (g .entry)) (at x) ⌝ }
-    ensures { λ r. ⌜ r .gradient ≡ gradientAnswer binary64 (heldRectilinear binary64 (g .entry)) (at x) ⌝ }
-    ensures { λ r. ⌜ Says (r .outcome) (outcomeOf (heldRectilinear binary64 (g .entry)) (at x)) ⌝ }
+    ensures { λ r. ⌜ r .outcome ≡ outcomeOf (keptRectilinear binary64 (g .entry)) (at x) ⌝ }
+    ensures { λ r. ⌜ r .gradient ≡ gradientAnswer binary64 (keptRectilinear binary64 (g .entry)) (at x) ⌝ }
+    ensures { λ r. ⌜ Says (r .outcome) (outcomeOf (keptRectilinear binary64 (g .entry)) (at x)) ⌝ }
 {
     rectilinear::interp_one_grad(g.axis_count, g.counts, g.axes, g.vals, g.mode, x)
 }
@@ -206,9 +190,9 @@ pub fn rectilinear_interp<'a, 'b, 'c, 'd>(
     queries: &'c [f64],
     out: &'d mut [f64],
 ) -> Outcome
-    ensures { λ r. ⌜ r ≡ interpOutcome binary64 (heldRectilinear binary64 (g .entry)) (now (queries .entry)) (now (out .entry)) ⌝ }
-    ensures { λ r. ⌜ now (out .exit) ≡ interpBuffer binary64 (heldRectilinear binary64 (g .entry)) (now (queries .entry)) (now (out .entry)) ⌝ }
-    ensures { λ r. ⌜ Says r (interpOutcome binary64 (heldRectilinear binary64 (g .entry)) (now (queries .entry)) (now (out .entry))) ⌝ }
+    ensures { λ r. ⌜ r ≡ interpOutcome binary64 (keptRectilinear binary64 (g .entry)) (now (queries .entry)) (now (out .entry)) ⌝ }
+    ensures { λ r. ⌜ now (out .exit) ≡ interpBuffer binary64 (keptRectilinear binary64 (g .entry)) (now (queries .entry)) (now (out .entry)) ⌝ }
+    ensures { λ r. ⌜ Says r (interpOutcome binary64 (keptRectilinear binary64 (g .entry)) (now (queries .entry)) (now (out .entry))) ⌝ }
 {
     rectilinear_batch::interp(g.axis_count, g.counts, g.axes, g.vals, g.mode, queries, out)
 }
@@ -219,9 +203,9 @@ pub fn rectilinear_interp_grad<'a, 'b, 'c, 'd>(
     queries: &'c [f64],
     out: &'d mut [f64],
 ) -> Outcome
-    ensures { λ r. ⌜ r ≡ gradOutcome binary64 (heldRectilinear binary64 (g .entry)) (now (queries .entry)) (now (out .entry)) ⌝ }
-    ensures { λ r. ⌜ now (out .exit) ≡ gradBuffer binary64 (heldRectilinear binary64 (g .entry)) (now (queries .entry)) (now (out .entry)) ⌝ }
-    ensures { λ r. ⌜ Says r (gradOutcome binary64 (heldRectilinear binary64 (g .entry)) (now (queries .entry)) (now (out .entry))) ⌝ }
+    ensures { λ r. ⌜ r ≡ gradOutcome binary64 (keptRectilinear binary64 (g .entry)) (now (queries .entry)) (now (out .entry)) ⌝ }
+    ensures { λ r. ⌜ now (out .exit) ≡ gradBuffer binary64 (keptRectilinear binary64 (g .entry)) (now (queries .entry)) (now (out .entry)) ⌝ }
+    ensures { λ r. ⌜ Says r (gradOutcome binary64 (keptRectilinear binary64 (g .entry)) (now (queries .entry)) (now (out .entry))) ⌝ }
 {
     rectilinear_batch::interp_grad(g.axis_count, g.counts, g.axes, g.vals, g.mode, queries, out)
 }

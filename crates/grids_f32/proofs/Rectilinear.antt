@@ -31,7 +31,7 @@ use Rattle.grids.proofs.Plain.{counts-val, counts-same, counts-param, counts-fi
 use Rattle.grids.proofs.Locals.{slice, Typed, fields}
 use Rattle.grids.proofs.Together.{Related, owning, owns-first}
 use Rattle.grids.proofs.Walks.{Fit}
-use Rattle.grids.proofs.Kept.{Held, Kind}
+use Rattle.grids.proofs.Kept.{Kept, Kind}
 use Rattle.grids.proofs.Made.{Maker, said-of}
 use Rattle.grids_f32.proofs.MulticubicRectilinearF32 as T
 use Rattle.grids_f32.proofs.MulticubicRectilinearF32.Laws as T′
@@ -40,8 +40,8 @@ use Rattle.multicubic.proofs.EdgeMode.Laws as E′
 
 -- the machine values of the fields
 module _ (d : MulticubicRectilinear) where
-  abbrev held : Vals
-  held = vcons (vint w64 (d .«axis_count»)) (vcons (counts-val (d .counts)) (vcons (sliceVal (d .axes .ptr) (length (d .axes .now)))
+  abbrev kept : Vals
+  kept = vcons (vint w64 (d .«axis_count»)) (vcons (counts-val (d .counts)) (vcons (sliceVal (d .axes .ptr) (length (d .axes .now)))
       (vcons (sliceVal (d .vals .ptr) (length (d .vals .now))) (vcons (E′.lowered (d .mode)) vnil))))
 
 module _ (n : ℕ) (ok : AllWithin n (0 ∷ [])) (ok′ : AllWithin n (1 ∷ [])) where
@@ -67,14 +67,14 @@ module _ (n : ℕ) (ok : AllWithin n (0 ∷ [])) (ok′ : AllWithin n (1 ∷ [])
   abbrev spell : (κs : Lfts n) → Spells (typesAt all κs)
   spell κs = (uint-vals w64, (array-vals (uint-vals w64), (slice-vals, (slice-vals, ((λ m. E′.lowered m ∷ []), tt)))))
 
-  module _ {M : Type 1} (𝓤 : URA M) (H : Heap 𝓤) (A : Atoms 𝓤) (W : Given 𝓤 H A) (κs : Lfts n) (d : MulticubicRectilinear) (is : Is (row κs) d (vstruct (held d) ∷ [])) where
-    pub fit : Fit (T′.mir (named 0) (named 1)) (vstruct (held d))
+  module _ {M : Type 1} (𝓤 : URA M) (H : Heap 𝓤) (A : Atoms 𝓤) (W : Given 𝓤 H A) (κs : Lfts n) (d : MulticubicRectilinear) (is : Is (row κs) d (vstruct (kept d) ∷ [])) where
+    pub fit : Fit (T′.mir (named 0) (named 1)) (vstruct (kept d))
     fit = LL.lawful (D κs) (L κs) 𝓤 H A W .typed d _ is .0
 
     counts-are : Is (Array usize 4) (d .counts) (counts-val (d .counts) ∷ [])
     counts-are = counts-param 4 (d .counts) (LL.owed (D κs) (L κs) d _ is .1 .0)
 
-    pub fits : (ℓ ℓ′ : Lifetime) → Typed (fields (held d) 0 (tyInt w64 ∷ tyArray (tyInt w64) 4 ∷ slice binary32 ℓ imm ∷ slice binary32 ℓ′ imm ∷ E′.mir ∷ []))
+    pub fits : (ℓ ℓ′ : Lifetime) → Typed (fields (kept d) 0 (tyInt w64 ∷ tyArray (tyInt w64) 4 ∷ slice binary32 ℓ imm ∷ slice binary32 ℓ′ imm ∷ E′.mir ∷ []))
     fits ℓ ℓ′ = (
       (tt, fit .1 .0),
       (
@@ -83,11 +83,11 @@ module _ (n : ℕ) (ok : AllWithin n (0 ∷ [])) (ok′ : AllWithin n (1 ∷ [])
       ),
     )
 
-    pub lends : ent 𝓤 (sem 𝓤 H A (row κs .own d (vstruct (held d) ∷ []))) (sem 𝓤 H A (owning κs all (spell κs) (args κs d)))
+    pub lends : ent 𝓤 (sem 𝓤 H A (row κs .own d (vstruct (kept d) ∷ []))) (sem 𝓤 H A (owning κs all (spell κs) (args κs d)))
     lends =
         let vd : Values (D κs .parts) = (d .«axis_count», (d .counts, (d .axes, (d .vals, (d .mode, tt))))) in
-        qed W (‵ (row κs .own d (vstruct (held d) ∷ [])) ∷ []) ∵
-        use1 W (given _ (‵ (all-own (D κs .parts) (L κs) vd))) (own-open 𝓤 H A W (D κs) (L κs) vd (vstruct (held d))) $
+        qed W (‵ (row κs .own d (vstruct (kept d) ∷ [])) ∷ []) ∵
+        use1 W (given _ (‵ (all-own (D κs .parts) (L κs) vd))) (own-open 𝓤 H A W (D κs) (L κs) vd (vstruct (kept d))) $
         learn ! (λ _. fsplit ! $ drop ! $ fsplit ! $ drop ! $ fsplit ! $ move ! (1 ∷ []) $ fsplit ! $ move ! (1 ∷ []) $ drop ! $
         nothing ! $ owned ! E.the-row (Is E.the-row) (EL.makes E.the-type E′.the-plain 𝓤 H A) (d .mode) _ (mode-is (d .mode)) $ fjoin ! $ move ! (1 ∷ 0 ∷ []) $ fjoin ! $
         move ! (1 ∷ 0 ∷ []) $ fjoin ! $
@@ -105,7 +105,7 @@ module _ (n : ℕ) (ok : AllWithin n (0 ∷ [])) (ok′ : AllWithin n (1 ∷ [])
         (vcons (sliceVal (a .1 .1 .1 .0 .ptr) (length (a .1 .1 .1 .0 .now))) (vcons w vnil)))))
 
     pub shuts : Related κs all (spell κs) a
-        → ent 𝓤 (sem 𝓤 H A (owning κs all (spell κs) a)) (sem 𝓤 H A (row κs .own (made κs a) (vstruct (held (made κs a)) ∷ [])))
+        → ent 𝓤 (sem 𝓤 H A (owning κs all (spell κs) a)) (sem 𝓤 H A (row κs .own (made κs a) (vstruct (kept (made κs a)) ∷ [])))
     shuts are =
         qed W (‵ (owning κs all (spell κs) a) ∷ []) ∵ fsplit ! $ drop ! $ fsplit ! $ drop ! $ fsplit ! $ move ! (1 ∷ []) $ fsplit ! $ move ! (1 ∷ []) $ drop ! $
         nothing ! $ owned ! E.the-row (Is E.the-row) (EL.makes E.the-type E′.the-plain 𝓤 H A) (a .1 .1 .1 .1 .0) _ (mode-is (a .1 .1 .1 .1 .0)) $
@@ -117,12 +117,12 @@ module _ (n : ℕ) (ok : AllWithin n (0 ∷ [])) (ok′ : AllWithin n (1 ∷ [])
         rewrite ! 0 (λ (w : Val). ‵ (row κs .own (made κs a) (with-vals (a .1 .0) w ∷ []))) (mode-same (a .1 .1 .1 .1 .0)) refl $ done !
 
   module _ {M : Type 1} (𝓤 : URA M) (H : Heap 𝓤) (A : Atoms 𝓤) (W : Given 𝓤 H A) where
-    abbrev pub held-rectilinear : Held 𝓤 H A n
-    held-rectilinear = record {
+    abbrev pub kept-rectilinear : Kept 𝓤 H A n
+    kept-rectilinear = record {
       row = row;
       symbol = T.the-type (by-name (named 0)) (by-name (named 1)) .name;
       parts = partsOf (T.the-type (by-name (named 0)) (by-name (named 1)));
-      values-of = λ κs d. held d;
+      values-of = λ κs d. kept d;
       tells = λ κs. T′.lowers (namedLft n 0 ok κs) (namedLft n 1 ok′ κs) .val-is;
       fit = fit 𝓤 H A W;
       last = λ κs d. tt;
@@ -131,7 +131,7 @@ module _ (n : ℕ) (ok : AllWithin n (0 ∷ [])) (ok′ : AllWithin n (1 ∷ [])
 
     abbrev pub rectilinear : Kind 𝓤 H A n
     rectilinear = record {
-      of = held-rectilinear;
+      of = kept-rectilinear;
       slots = all;
       reads = tyInt w64 ∷ tyArray (tyInt w64) 4 ∷ slice binary32 erased imm ∷ slice binary32 erased imm ∷ E′.mir ∷ [];
       has = ((_, _, refl), ((_, _, refl), ((_, _, refl), ((_, _, refl), ((_, _, refl), tt)))));
@@ -145,7 +145,7 @@ module _ (n : ℕ) (ok : AllWithin n (0 ∷ [])) (ok′ : AllWithin n (1 ∷ [])
     -- without the mode, which `new` is not given
     abbrev pub rectilinear-sizes : Kind 𝓤 H A n
     rectilinear-sizes = record {
-      of = held-rectilinear;
+      of = kept-rectilinear;
       slots = sizes;
       reads = tyInt w64 ∷ tyArray (tyInt w64) 4 ∷ slice binary32 erased imm ∷ slice binary32 erased imm ∷ [];
       has = ((_, _, refl), ((_, _, refl), ((_, _, refl), ((_, _, refl), tt))));

@@ -5,12 +5,11 @@ ghost use mathlib.Core.Path.{_≡_};
 ghost use lib.ListN.{length};
 ghost use lib.Ieee.{binary32};
 ghost use Rattle.multicubic.specs.Answers.{Says, answerOutcome, valueIn};
-ghost use Rattle.multicubic.specs.declared.EdgeMode.{EdgeMode};
 ghost use Rattle.grid.specs.Query.{outcomeOf, at, placeAnswer, valueAnswer, valueCarried, gradientAnswer};
 ghost use Rattle.grid.specs.Batch.{interpOutcome, interpBuffer, gradOutcome, gradBuffer};
 ghost use Rattle.regular_query.specs.Grid.{checksOf as regularChecks, gridOf as regularOf};
 ghost use Rattle.rectilinear_query.specs.Grid.{checksOf as rectilinearChecks, gridOf as rectilinearOf};
-ghost use Rattle.grids_f32.specs.Held.{heldRegular, heldRectilinear};
+ghost use Rattle.grids_f32.specs.Kept.{keptRegular, keptRectilinear};
 ghost use Rattle.multicubic_f32.specs.Same.{asAnswer, asAxes};
 use multicubic::EdgeMode;
 use multicubic::Outcome;
@@ -61,35 +60,29 @@ pub fn regular_new<'a>(g: MulticubicRegularF32<'a>) -> Outcome
     regular_f32::new(g.axis_count, g.axes, g.vals)
 }
 
-// The place of a query on the grid, whatever its mode.
+// The place of a query on the grid, in its mode.
 pub fn regular_get_loc<'a>(g: MulticubicRegularF32<'a>, x: [f32; 4]) -> PlaceAnswer
-    ensures { λ r. ⌜
-        ((mode : EdgeMode) → r .outcome ≡ outcomeOf (regularOf binary32 (g .entry .«axis_count») (asAxes (g .entry .axes)) (now (g .entry .vals)) mode) (at x))
-        ⌝ }
-    ensures { λ r. ⌜
-        ((mode : EdgeMode) → r .places ≡ placeAnswer (regularOf binary32 (g .entry .«axis_count») (asAxes (g .entry .axes)) (now (g .entry .vals)) mode) (at x))
-        ⌝ }
-    ensures { λ r. ⌜
-        ((mode : EdgeMode) → Says (r .outcome) (outcomeOf (regularOf binary32 (g .entry .«axis_count») (asAxes (g .entry .axes)) (now (g .entry .vals)) mode) (at x)))
-        ⌝ }
+    ensures { λ r. ⌜ r .outcome ≡ outcomeOf (keptRegular binary32 (g .entry)) (at x) ⌝ }
+    ensures { λ r. ⌜ r .places ≡ placeAnswer (keptRegular binary32 (g .entry)) (at x) ⌝ }
+    ensures { λ r. ⌜ Says (r .outcome) (outcomeOf (keptRegular binary32 (g .entry)) (at x)) ⌝ }
 {
-    regular_f32::get_loc(g.axis_count, g.axes, g.vals, x)
+    regular_f32::get_loc(g.axis_count, g.axes, g.vals, g.mode, x)
 }
 
 // The value at a query, or the refusal.
 pub fn regular_interp_one<'a>(g: MulticubicRegularF32<'a>, x: [f32; 4]) -> AnswerF32
-    ensures { λ r. ⌜ asAnswer r ≡ valueAnswer binary32 (heldRegular binary32 (g .entry)) (at x) ⌝ }
-    ensures { λ r. ⌜ Says (answerOutcome (asAnswer r)) (outcomeOf (heldRegular binary32 (g .entry)) (at x)) ⌝ }
-    ensures { λ r. ⌜ valueIn (asAnswer r) ≡ valueCarried binary32 (heldRegular binary32 (g .entry)) (at x) ⌝ }
+    ensures { λ r. ⌜ asAnswer r ≡ valueAnswer binary32 (keptRegular binary32 (g .entry)) (at x) ⌝ }
+    ensures { λ r. ⌜ Says (answerOutcome (asAnswer r)) (outcomeOf (keptRegular binary32 (g .entry)) (at x)) ⌝ }
+    ensures { λ r. ⌜ valueIn (asAnswer r) ≡ valueCarried binary32 (keptRegular binary32 (g .entry)) (at x) ⌝ }
 {
     regular_f32::interp_one(g.axis_count, g.axes, g.vals, g.mode, x)
 }
 
 // The gradient at a query, or the refusal.
 pub fn regular_interp_one_grad<'a>(g: MulticubicRegularF32<'a>, x: [f32; 4]) -> GradientAnswerF32
-    ensures { λ r. ⌜ r .outcome ≡ outcomeOf (heldRegular binary32 (g .entry)) (at x) ⌝ }
-    ensures { λ r. ⌜ r .gradient ≡ gradientAnswer binary32 (heldRegular binary32 (g .entry)) (at x) ⌝ }
-    ensures { λ r. ⌜ Says (r .outcome) (outcomeOf (heldRegular binary32 (g .entry)) (at x)) ⌝ }
+    ensures { λ r. ⌜ r .outcome ≡ outcomeOf (keptRegular binary32 (g .entry)) (at x) ⌝ }
+    ensures { λ r. ⌜ r .gradient ≡ gradientAnswer binary32 (keptRegular binary32 (g .entry)) (at x) ⌝ }
+    ensures { λ r. ⌜ Says (r .outcome) (outcomeOf (keptRegular binary32 (g .entry)) (at x)) ⌝ }
 {
     regular_f32::interp_one_grad(g.axis_count, g.axes, g.vals, g.mode, x)
 }
@@ -100,9 +93,9 @@ pub fn regular_interp<'a, 'b, 'c>(
     queries: &'b [f32],
     out: &'c mut [f32],
 ) -> Outcome
-    ensures { λ r. ⌜ r ≡ interpOutcome binary32 (heldRegular binary32 (g .entry)) (now (queries .entry)) (now (out .entry)) ⌝ }
-    ensures { λ r. ⌜ now (out .exit) ≡ interpBuffer binary32 (heldRegular binary32 (g .entry)) (now (queries .entry)) (now (out .entry)) ⌝ }
-    ensures { λ r. ⌜ Says r (interpOutcome binary32 (heldRegular binary32 (g .entry)) (now (queries .entry)) (now (out .entry))) ⌝ }
+    ensures { λ r. ⌜ r ≡ interpOutcome binary32 (keptRegular binary32 (g .entry)) (now (queries .entry)) (now (out .entry)) ⌝ }
+    ensures { λ r. ⌜ now (out .exit) ≡ interpBuffer binary32 (keptRegular binary32 (g .entry)) (now (queries .entry)) (now (out .entry)) ⌝ }
+    ensures { λ r. ⌜ Says r (interpOutcome binary32 (keptRegular binary32 (g .entry)) (now (queries .entry)) (now (out .entry))) ⌝ }
 {
     regular_batch_f32::interp(g.axis_count, g.axes, g.vals, g.mode, queries, out)
 }
@@ -113,9 +106,9 @@ pub fn regular_interp_grad<'a, 'b, 'c>(
     queries: &'b [f32],
     out: &'c mut [f32],
 ) -> Outcome
-    ensures { λ r. ⌜ r ≡ gradOutcome binary32 (heldRegular binary32 (g .entry)) (now (queries .entry)) (now (out .entry)) ⌝ }
-    ensures { λ r. ⌜ now (out .exit) ≡ gradBuffer binary32 (heldRegular binary32 (g .entry)) (now (queries .entry)) (now (out .entry)) ⌝ }
-    ensures { λ r. ⌜ Says r (gradOutcome binary32 (heldRegular binary32 (g .entry)) (now (queries .entry)) (now (out .entry))) ⌝ }
+    ensures { λ r. ⌜ r ≡ gradOutcome binary32 (keptRegular binary32 (g .entry)) (now (queries .entry)) (now (out .entry)) ⌝ }
+    ensures { λ r. ⌜ now (out .exit) ≡ gradBuffer binary32 (keptRegular binary32 (g .entry)) (now (queries .entry)) (now (out .entry)) ⌝ }
+    ensures { λ r. ⌜ Says r (gradOutcome binary32 (keptRegular binary32 (g .entry)) (now (queries .entry)) (now (out .entry))) ⌝ }
 {
     regular_batch_f32::interp_grad(g.axis_count, g.axes, g.vals, g.mode, queries, out)
 }
@@ -162,29 +155,20 @@ pub fn rectilinear_new<'a, 'b>(g: MulticubicRectilinearF32<'a, 'b>) -> Outcome
     rectilinear_f32::new(g.axis_count, g.counts, g.axes, g.vals)
 }
 
-// The place of a query on the grid, whatever its mode.
+// The place of a query on the grid, in its mode.
 pub fn rectilinear_get_loc<'a, 'b>(g: MulticubicRectilinearF32<'a, 'b>, x: [f32; 4]) -> PlaceAnswer
-    ensures { λ r. ⌜
-        ((mode : EdgeMode) → r .outcome ≡ outcomeOf
-        (rectilinearOf binary32 (g .entry .«axis_count») (g .entry .counts) (now (g .entry .axes)) (now (g .entry .vals)) mode) (at x))
-        ⌝ }
-    ensures { λ r. ⌜
-        ((mode : EdgeMode) → r .places ≡ placeAnswer
-        (rectilinearOf binary32 (g .entry .«axis_count») (g .entry .counts) (now (g .entry .axes)) (now (g .entry .vals)) mode) (at x))
-        ⌝ }
-    ensures { λ r. ⌜
-        ((mode : EdgeMode) → Says (r .outcome)
-        (outcomeOf (rectilinearOf binary32 (g .entry .«axis_count») (g .entry .counts) (now (g .entry .axes)) (now (g .entry .vals)) mode) (at x)))
-        ⌝ }
+    ensures { λ r. ⌜ r .outcome ≡ outcomeOf (keptRectilinear binary32 (g .entry)) (at x) ⌝ }
+    ensures { λ r. ⌜ r .places ≡ placeAnswer (keptRectilinear binary32 (g .entry)) (at x) ⌝ }
+    ensures { λ r. ⌜ Says (r .outcome) (outcomeOf (keptRectilinear binary32 (g .entry)) (at x)) ⌝ }
 {
-    rectilinear_f32::get_loc(g.axis_count, g.counts, g.axes, g.vals, x)
+    rectilinear_f32::get_loc(g.axis_count, g.counts, g.axes, g.vals, g.mode, x)
 }
 
 // The value at a query, or the refusal.
 pub fn rectilinear_interp_one<'a, 'b>(g: MulticubicRectilinearF32<'a, 'b>, x: [f32; 4]) -> AnswerF32
-    ensures { λ r. ⌜ asAnswer r ≡ valueAnswer binary32 (heldRectilinear binary32 (g .entry)) (at x) ⌝ }
-    ensures { λ r. ⌜ Says (answerOutcome (asAnswer r)) (outcomeOf (heldRectilinear binary32 (g .entry)) (at x)) ⌝ }
-    ensures { λ r. ⌜ valueIn (asAnswer r) ≡ valueCarried binary32 (heldRectilinear binary32 (g .entry)) (at x) ⌝ }
+    ensures { λ r. ⌜ asAnswer r ≡ valueAnswer binary32 (keptRectilinear binary32 (g .entry)) (at x) ⌝ }
+    ensures { λ r. ⌜ Says (answerOutcome (asAnswer r)) (outcomeOf (keptRectilinear binary32 (g .entry)) (at x)) ⌝ }
+    ensures { λ r. ⌜ valueIn (asAnswer r) ≡ valueCarried binary32 (keptRectilinear binary32 (g .entry)) (at x) ⌝ }
 {
     rectilinear_f32::interp_one(g.axis_count, g.counts, g.axes, g.vals, g.mode, x)
 }
@@ -194,9 +178,9 @@ pub fn rectilinear_interp_one_grad<'a, 'b>(
     g: MulticubicRectilinearF32<'a, 'b>,
     x: [f32; 4],
 ) -> GradientAnswerF32
-    ensures { λ r. ⌜ r .outcome ≡ outcomeOf (heldRectilinear binary32 (g .entry)) (at x) ⌝ }
-    ensures { λ r. ⌜ r .gradient ≡ gradientAnswer binary32 (heldRectilinear binary32 (g .entry)) (at x) ⌝ }
-    ensures { λ r. ⌜ Says (r .outcome) (outcomeOf (heldRectilinear binary32 (g .entry)) (at x)) ⌝ }
+    ensures { λ r. ⌜ r .outcome ≡ outcomeOf (keptRectilinear binary32 (g .entry)) (at x) ⌝ }
+    ensures { λ r. ⌜ r .gradient ≡ gradientAnswer binary32 (keptRectilinear binary32 (g .entry)) (at x) ⌝ }
+    ensures { λ r. ⌜ Says (r .outcome) (outcomeOf (keptRectilinear binary32 (g .entry)) (at x)) ⌝ }
 {
     rectilinear_f32::interp_one_grad(g.axis_count, g.counts, g.axes, g.vals, g.mode, x)
 }
@@ -207,9 +191,9 @@ pub fn rectilinear_interp<'a, 'b, 'c, 'd>(
     queries: &'c [f32],
     out: &'d mut [f32],
 ) -> Outcome
-    ensures { λ r. ⌜ r ≡ interpOutcome binary32 (heldRectilinear binary32 (g .entry)) (now (queries .entry)) (now (out .entry)) ⌝ }
-    ensures { λ r. ⌜ now (out .exit) ≡ interpBuffer binary32 (heldRectilinear binary32 (g .entry)) (now (queries .entry)) (now (out .entry)) ⌝ }
-    ensures { λ r. ⌜ Says r (interpOutcome binary32 (heldRectilinear binary32 (g .entry)) (now (queries .entry)) (now (out .entry))) ⌝ }
+    ensures { λ r. ⌜ r ≡ interpOutcome binary32 (keptRectilinear binary32 (g .entry)) (now (queries .entry)) (now (out .entry)) ⌝ }
+    ensures { λ r. ⌜ now (out .exit) ≡ interpBuffer binary32 (keptRectilinear binary32 (g .entry)) (now (queries .entry)) (now (out .entry)) ⌝ }
+    ensures { λ r. ⌜ Says r (interpOutcome binary32 (keptRectilinear binary32 (g .entry)) (now (queries .entry)) (now (out .entry))) ⌝ }
 {
     rectilinear_batch_f32::interp(g.axis_count, g.counts, g.axes, g.vals, g.mode, queries, out)
 }
@@ -220,9 +204,9 @@ pub fn rectilinear_interp_grad<'a, 'b, 'c, 'd>(
     queries: &'c [f32],
     out: &'d mut [f32],
 ) -> Outcome
-    ensures { λ r. ⌜ r ≡ gradOutcome binary32 (heldRectilinear binary32 (g .entry)) (now (queries .entry)) (now (out .entry)) ⌝ }
-    ensures { λ r. ⌜ now (out .exit) ≡ gradBuffer binary32 (heldRectilinear binary32 (g .entry)) (now (queries .entry)) (now (out .entry)) ⌝ }
-    ensures { λ r. ⌜ Says r (gradOutcome binary32 (heldRectilinear binary32 (g .entry)) (now (queries .entry)) (now (out .entry))) ⌝ }
+    ensures { λ r. ⌜ r ≡ gradOutcome binary32 (keptRectilinear binary32 (g .entry)) (now (queries .entry)) (now (out .entry)) ⌝ }
+    ensures { λ r. ⌜ now (out .exit) ≡ gradBuffer binary32 (keptRectilinear binary32 (g .entry)) (now (queries .entry)) (now (out .entry)) ⌝ }
+    ensures { λ r. ⌜ Says r (gradOutcome binary32 (keptRectilinear binary32 (g .entry)) (now (queries .entry)) (now (out .entry))) ⌝ }
 {
     rectilinear_batch_f32::interp_grad(g.axis_count, g.counts, g.axes, g.vals, g.mode, queries, out)
 }

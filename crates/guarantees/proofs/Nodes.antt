@@ -15,12 +15,13 @@ use Rattle.multicubic.specs.declared.Outcome.the-variants.{Accepted, Refused}
 use Rattle.multicubic.specs.Answers.{numberOf, queryOf}
 use Rattle.grid.specs.Query.{Grid, Found, at, valueAnswer}
 use Rattle.grid.specs.Batch.{queryAt, foundAt, outcomeFrom, valueChecks, interpOutcome, interpBuffer}
+use Rattle.grid.specs.Edges.{AtClamped}
 use Rattle.grid.specs.Nodes.{stored, Fits}
 use Rattle.grid.proofs.Premises.{NodeLaws, Sized}
-use Rattle.grid.proofs.AtNodes.{NodeCase, node-answer, node-differs}
+use Rattle.grid.proofs.AtNodes.{AtEach, at-each, NodeCase, node-answer, node-differs}
 use Rattle.grid.proofs.Batches.{PlacedAt, Lowest, refused-lowest, accepted-all, interp-refused, interp-answers}
 use Rattle.grid.proofs.InBatches.{node-entry}
-use Rattle.guarantees.specs.Statements.{IsAccepted, QueryAtNode, NodeRule, NodeCorollary, NodeInBatch}
+use Rattle.guarantees.specs.Statements.{IsAccepted, QueryAtNode, NodeRule, NodeCorollary, NodeInBatch, HeldEdge}
 use Rattle.guarantees.proofs.Typing.{Typed}
 
 -- what a kind supplies of a grid: its sizes by the checks, the laws of its axes within the kind's premises, and the values by typing
@@ -31,7 +32,8 @@ pub record Supplied (f : Format) (premises : Type 0) (g : Grid) : Type 0 where
 
 module _ (f : Format) (premises : Type 0) (g : Grid) (kind : Supplied f premises g) where
   at-node : (query : ℕ → Float) → Typed f query → (node : List ℕ) → QueryAtNode premises g node query → NodeCase f g node query
-  at-node query typed node h = record { sized = kind .sized (h .0); whole = h .2; held = kind .held; laws = kind .laws (h .0) (h .1); typed = typed; at = h .3 }
+  at-node query typed node h =
+      record { sized = kind .sized (h .0); whole = h .2; held = kind .held; rows = at-each f query typed 0 (g .axes) node (kind .laws (h .0) (h .1)) (h .3) }
 
   pub node-rule : (query : ℕ → Float) → Typed f query → (answer : Answer) → answer ≡ valueAnswer f g query → NodeRule premises g query answer
   node-rule query typed answer e node h =
@@ -77,6 +79,14 @@ module _ (f : Format) (premises : Type 0) (g : Grid) (kind : Supplied f premises
       let placed = earlier queries before after outcome o (q .0) not-seven i h not-earlier in
       let case = at-node (queryAt (length before) queries i) (λ axis. typed _) node q in
       subst (λ (l : List Float). T (eq (getD l i nan) (stored g node))) (sym b) (node-entry f g node queries before ok i h placed case)
+
+-- a kind supplies the rows of a query at a node or past an end, too
+pub held-edge : (f : Format) (premises : Type 0) (g : Grid) → Supplied f premises g → (query : ℕ → Float)
+    → (IsAccepted g → premises → (is : List ℕ) → AtClamped 0 (g .axes) is query → AtEach 0 (g .axes) is query)
+    → (answer : Answer) → answer ≡ valueAnswer f g query → HeldEdge premises g query answer
+held-edge f premises g kind query rows answer e index h =
+    let n = node-answer f g index query (h .0) (record { sized = kind .sized (h .0); whole = h .2; held = kind .held; rows = rows (h .0) (h .1) index (h .3) }) in
+    (n .0, e ∙ n .1, n .2)
 
 pub node-corollary : (f : Format) (premises : Type 0) (g g' : Grid) → Supplied f premises g → Supplied f premises g' → (query : ℕ → Float) → Typed f query → (answer answer' : Answer) → answer ≡ valueAnswer f g query → answer' ≡ valueAnswer f g' query
     → NodeCorollary premises g g' query answer answer'

@@ -15,6 +15,7 @@ use Rattle.multicubic.specs.Answers.{numberOf, queryOf}
 use Rattle.multicubic.specs.Place.{Placed}
 use Rattle.grid.specs.Query.{Grid, places, find, gridCounts, outcomeOf, valueAnswer, gradientAnswer}
 use Rattle.grid.specs.Batch.{queryAt, interpBuffer, gradBuffer}
+use Rattle.grid.specs.Edges.{AtClamped}
 use Rattle.grid.specs.Nodes.{AtIndex, stored, FiniteValues, SameBlock}
 
 -- accepted: `new` gives 0
@@ -43,6 +44,14 @@ NodeInBatch premises g queries outcome before after =
     (i : ℕ) (node : List ℕ) → i < length before → QueryAtNode premises g node (queryAt (length before) queries i)
     → (numberOf outcome ≡ 7 → ⊥) → (numberOf outcome ≡ 8 → queryOf outcome < i → ⊥)
     → T (eq (getD after i nan) (stored g node))
+
+-- ---- held edges
+-- 8.6: on an accepted grid that holds its edges, within the premises, a query that is on each axis at a node or past an end is answered with the
+-- number stored at the index so clamped
+abbrev pub HeldEdge : Type 0 → Grid → (ℕ → Float) → Answer → Type 0
+HeldEdge premises g query answer =
+    (index : List ℕ) → IsAccepted g × premises × FiniteValues (g .vals) × AtClamped 0 (g .axes) index query
+    → (v : Float) × (answer ≡ Value v) × T (eq v (stored g index))
 
 -- ---- blocks
 -- 8.5: two accepted grids with the same axes, which hold the setting too, since they give the weights; the query is placeable, at ps, and the

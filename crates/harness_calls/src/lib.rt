@@ -48,12 +48,13 @@ pub fn call_new(g: Group, axes: &[f64], vals: &[f64]) -> Outcome {
 
 fn call_get_loc(g: Group, axes: &[f64], vals: &[f64], x: [f64; 4]) -> PlaceAnswer {
     let n = g.n;
+    let mode = g.mode;
     if g.rectilinear {
         let counts = g.counts;
-        return rectilinear::get_loc(n, counts, axes, vals, x);
+        return rectilinear::get_loc(n, counts, axes, vals, mode, x);
     }
     let regular_axes = g.axes;
-    regular::get_loc(n, regular_axes, vals, x)
+    regular::get_loc(n, regular_axes, vals, mode, x)
 }
 
 fn call_interp_one(g: Group, axes: &[f64], vals: &[f64], x: [f64; 4]) -> Answer {

@@ -30,12 +30,13 @@ pub fn call_new(g: GroupF32, axes: &[f32], vals: &[f32]) -> Outcome {
 
 fn call_get_loc(g: GroupF32, axes: &[f32], vals: &[f32], x: [f32; 4]) -> PlaceAnswer {
     let n = g.n;
+    let mode = g.mode;
     if g.rectilinear {
         let counts = g.counts;
-        return rectilinear_f32::get_loc(n, counts, axes, vals, x);
+        return rectilinear_f32::get_loc(n, counts, axes, vals, mode, x);
     }
     let regular_axes = g.axes;
-    regular_f32::get_loc(n, regular_axes, vals, x)
+    regular_f32::get_loc(n, regular_axes, vals, mode, x)
 }
 
 fn call_interp_one(g: GroupF32, axes: &[f32], vals: &[f32], x: [f32; 4]) -> AnswerF32 {

@@ -2,21 +2,24 @@
 use mathlib.Core.Path.{_≡_, refl, sym, ap, _∙_, subst}
 use mathlib.Core.Logic.{inl, inr}
 use Prim.Native.Nat.{ℕ, zero, suc, _+_, _-_, _*_, _/_, _%_, _^_, _≤_, _<_}
-use native.Mathlib.Nat.{le-trans, le-of-eq, le-of-lt, lt-of-lt-of-le, zero-lt-suc, zero-mul, mul-one, one-mul, mul-comm, mul-assoc, mul-left-comm, mul-right-comm, mul-pos, mul-le-mul-left, mul-le-mul-right, mul-lt-mul-of-pos-right, le-of-mul-le-mul-right, eq-of-mul-eq-mul-right, add-mul, mul-sub, mul-div-cancel, mul-mod-left}
+use native.Mathlib.Nat.{le-trans, le-of-eq, le-of-lt, lt-of-lt-of-le, zero-lt-suc, zero-add, zero-mul, mul-one, one-mul, mul-comm, mul-assoc, mul-left-comm, mul-right-comm, mul-pos, mul-le-mul-left, mul-le-mul-right, mul-lt-mul-of-pos-right, le-of-mul-le-mul-right, eq-of-mul-eq-mul-right, add-mul, mul-sub, mul-div-cancel, mul-mod-left}
 use native.Mathlib.Omega.{arith}
 use mathlib.Core.Bool.{Bool, true, false, not, cond}
 use lib.IntN.{ℤ, pos, negsuc, pos-ne-negsuc, negℤ, natAbs, _+ℤ_, _-ℤ_, +ℤ-comm, negℤ-+ℤ, negℤ-negℤ, +ℤ-negℤ-cancel, pos-+ℤ-pos}
-use lib.Dec.{T, ltb, ltb→lt, nltb→le, lit≤}
+use lib.Signed.{ltZ}
+use lib.Dec.{T, ltb, ltb→lt, nltb→le, lit≤, leb·suc-suc}
 use lib.Pow.{pow-add, pow-pos}
-use lib.Ieee.{Float, nan, inf, fin, Format, binary32, binary64, prec, emax, low, up, down, unlike, round, sum, add, sub, neg, mul, div, ofInt, fits}
+use lib.Ieee.{Float, nan, inf, fin, Format, binary32, binary64, prec, emax, low, up, down, unlike, round, sum, add, sub, neg, mul, div, lt, ofInt, fits}
 use lib.Ieee.Digits.{back}
 use lib.Ieee.Fits.{up-pos, down-pos}
 use lib.Ieee.Exact.{HasValue, round-exact}
 use lib.Ieee.Back.{round-whole}
+use borrow.Author.Tests.{lt-ltb, le-ltb}
 use Rattle.ieee.proofs.Unique.{place, below, in-units, value-unique}
 use Rattle.ieee.proofs.Zero.{IsZero}
 use Rattle.ieee.proofs.ZeroOne.{nil, Same, nil-fits, like-false}
 use Rattle.ieee.proofs.Cancel.{div-is, sub-of}
+use Rattle.ieee.proofs.Order.{below-scale}
 
 -- ---- a sign and a magnitude as an integer
 abbrev pub signed : Bool → ℕ → ℤ
@@ -313,3 +316,40 @@ pub cut : (s : Bool) (m : ℕ) (e : ℤ) (i : ℕ) → Is (pos 0) (pos i) (fin s
 cut s m e i h =
     let q : m * up e ≡ i * down e = sym (mul-one (m * up e)) ∙ h .is .1 ∙ ap (λ (z : ℕ). z * down e) (mul-one (h .size) ∙ size-is (pos 0) (pos i) (fin s m e) h) in
     (ap (λ (z : ℕ). z / down e) q ∙ mul-div-cancel i (down-pos e), ap (λ (z : ℕ). z % down e) q ∙ mul-mod-left i (down e))
+
+-- ---- the order of multiples is the order of the integers
+below-signed : (s t : Bool) (a b : ℕ) → lib.Ieee.below s a t b ≡ ltZ (signed s a) (signed t b)
+below-signed false false a b = refl
+below-signed false true a zero = sym (le-ltb a 0 (omega arith))
+below-signed false true a (suc b) = refl
+below-signed true false zero b = ap (λ (q : ℕ). ltb 0 q) (zero-add b)
+below-signed true false (suc a) b = lt-ltb 0 (suc a + b) (omega arith)
+below-signed true true zero zero = refl
+below-signed true true zero (suc b) = le-ltb (suc b) 0 (omega arith)
+below-signed true true (suc a) zero = lt-ltb 0 (suc a) (omega arith)
+below-signed true true (suc a) (suc b) = leb·suc-suc (suc b) a
+
+-- A * D is a * U * C and B * D is b * U * C, so A is to B as a is to b
+below-mult : (s t : Bool) (A B D a b U C : ℕ) → 0 < D → 0 < U → 0 < C → A * D ≡ a * U * C → B * D ≡ b * U * C → lib.Ieee.below s A t B ≡ lib.Ieee.below s a t b
+below-mult s t A B D a b U C d u c h k =
+    sym (below-scale s t A B D d)
+    ∙ ap (λ (q : ℕ). lib.Ieee.below s q t (B * D)) h
+    ∙ ap (λ (q : ℕ). lib.Ieee.below s (a * U * C) t q) k
+    ∙ below-scale s t (a * U) (b * U) C c
+    ∙ below-scale s t a b U u
+
+pub lt-mult : (p z w : ℤ) (x y : Float) → Is p z x → Is p w y → lt x y ≡ ltZ z w
+unfolding lt
+lt-mult p z w nan y h k = absurd (h .is)
+lt-mult p z w (inf s) y h k = absurd (h .is)
+lt-mult p z w (fin s m e) nan h k = absurd (k .is)
+lt-mult p z w (fin s m e) (inf t) h k = absurd (k .is)
+lt-mult p z w (fin s m e) (fin t n d) h k =
+    let a = h .size in
+    let b = k .size in
+    below-mult s t (m * up e * down d) (n * up d * down e) (down p) a b (up p) (down e * down d) (down-pos p) (up-pos p) (mul-pos (down-pos e) (down-pos d))
+    (widen-l (m * up e) (down d) (down p) a (up p) (down e) (h .is .1))
+    (widen-l (n * up d) (down e) (down p) b (up p) (down d) (k .is .1) ∙ ap (λ (q : ℕ). b * up p * q) (mul-comm (down d) (down e)))
+    ∙ below-signed s t a b
+    ∙ ap (λ (q : ℤ). ltZ q (signed t b)) (ap (λ (u : Bool). signed u a) (h .is .0) ∙ h .z-is)
+    ∙ ap (λ (q : ℤ). ltZ z q) (ap (λ (u : Bool). signed u b) (k .is .0) ∙ k .z-is)

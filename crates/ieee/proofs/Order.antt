@@ -107,7 +107,7 @@ ltb-scale a b c h = ltb-scale-at a b c (ltb a b) h refl
 eqb-scale : (a b c : ℕ) → 0 < c → eqb (a * c) (b * c) ≡ eqb a b
 eqb-scale a b c h = eqb-scale-at a b c (eqb a b) h refl
 
-below-scale : (s t : Bool) (a b c : ℕ) → 0 < c → below s (a * c) t (b * c) ≡ below s a t b
+pub below-scale : (s t : Bool) (a b c : ℕ) → 0 < c → below s (a * c) t (b * c) ≡ below s a t b
 below-scale false false a b c h = ltb-scale a b c h
 below-scale false true a b c h = refl
 below-scale true false a b c h = ap (λ (n : ℕ). ltb 0 n) (sym (add-mul a b c)) ∙ ap (λ (n : ℕ). ltb n ((a + b) * c)) (sym (zero-mul c)) ∙ ltb-scale 0 (a + b) c h
@@ -347,3 +347,39 @@ eq-trans (fin s m e) (inf t) z p q = no p
 eq-trans (fin s m e) (fin t n d) nan p q = no q
 eq-trans (fin s m e) (fin t n d) (inf u) p q = no q
 eq-trans (fin s m e) (fin t n d) (fin u k f) p q = sym (eq-xz s t u m n k e d f) ∙ level-trans s t u (X s t u m n k e d f) (Y s t u m n k e d f) (Z s t u m n k e d f) (eq-xy s t u m n k e d f ∙ p) (eq-yz s t u m n k e d f ∙ q)
+
+-- ---- `<` of a number and itself, before `<=`, and of equal numbers
+pub lt-irrefl : (x : Float) → lt x x ≡ false
+unfolding lt
+lt-irrefl nan = refl
+lt-irrefl (inf false) = refl
+lt-irrefl (inf true) = refl
+lt-irrefl (fin false m e) = le-ltb (m * up e * down e) (m * up e * down e) (omega arith)
+lt-irrefl (fin true m e) = le-ltb (m * up e * down e) (m * up e * down e) (omega arith)
+
+-- what compares is no NaN
+numbers : (x y : Float) → le x y ≡ true → (isNan x ≡ false) × (isNan y ≡ false)
+numbers x y e = sides (isNan x) (isNan y) (lt y x) (sym (le-is x y) ∙ e)
+  where
+    sides : (p q r : Bool) → not (p || q || r) ≡ true → (p ≡ false) × (q ≡ false)
+    sides true q r e = no e
+    sides false true r e = no e
+    sides false false r e = (refl, refl)
+
+-- else x <= a, so b <= a
+pub lt-le-trans : (a b x : Float) → lt a b ≡ true → le b x ≡ true → lt a x ≡ true
+lt-le-trans a b x p q = go (lt a x) refl
+  where
+    go : (t : Bool) → lt a x ≡ t → lt a x ≡ true
+    go true e = e
+    go false e = no (sym (le-not-lt b a (le-trans b x a q (le-is x a ∙ rw (numbers b x q .1, numbers a b (lt→le a b p) .0, e)))) ∙ p)
+
+pub eq→le : (a b : Float) → eq a b ≡ true → le a b ≡ true
+unfolding le
+eq→le a b p = or-right (lt a b) (eq a b) p
+
+pub eq-lt-left : (x y z : Float) → eq x y ≡ true → lt x z ≡ true → lt y z ≡ true
+eq-lt-left x y z e l = le-lt-trans y x z (eq→le y x (eq-sym x y e)) l
+
+pub eq-lt-right : (x y z : Float) → eq x y ≡ true → lt z x ≡ true → lt z y ≡ true
+eq-lt-right x y z e l = lt-le-trans z x y l (eq→le x y e)

@@ -1,12 +1,18 @@
--- One lemma about the list of twelve rows: in either format each computes to what clause 9.1 gives for it.
+-- One lemma about the lists of rows: in each setting and either format each row computes to what clause 9.1 gives for it.
 use mathlib.Core.Path.{_≡_, refl}
 use mathlib.Core.List.{map}
-use lib.Ieee.{Format, binary32, binary64, sub, div, lt, le}
+use lib.Ieee.{Format, binary32, binary64, add, sub, mul, div, ofInt, lt, le}
+use Rattle.multicubic.specs.declared.EdgeMode.{EdgeMode}
+use Rattle.multicubic.specs.declared.EdgeMode.the-variants.{Cubic, Straight, Held}
 use Rattle.multicubic.specs.Place.{originOf, classOf}
 use Rattle.regular_axis.specs.Place.{floorOf, refused8}
-use Rattle.marked_rows.specs.MarkedRows.{Row, answer, rows}
+use Rattle.marked_rows.specs.MarkedRows.{Row, answer, rows, heldRows, rowsIn}
 
-pub marked-rows : (f : Format) → map (answer f) rows ≡ map (λ (r : Row). r .expected) rows
-unfolding rows originOf classOf floorOf refused8 sub div lt le
-marked-rows binary32 = refl
-marked-rows binary64 = refl
+pub marked-rows : (f : Format) (mode : EdgeMode) → map (answer f mode) (rowsIn mode) ≡ map (λ (r : Row). r .expected) (rowsIn mode)
+unfolding rows heldRows originOf classOf floorOf refused8 add sub mul div ofInt lt le
+marked-rows binary32 Cubic = refl
+marked-rows binary32 Straight = refl
+marked-rows binary32 Held = refl
+marked-rows binary64 Cubic = refl
+marked-rows binary64 Straight = refl
+marked-rows binary64 Held = refl

@@ -1,4 +1,4 @@
--- Clause 9.1: the marked cases, seven regular rows and five rectilinear ones.
+-- Clause 9.1: the marked cases, seven regular rows and five rectilinear ones, and three of them where the edges are held.
 use Prim.Native.Nat.{ℕ}
 use mathlib.Core.Bool.{true, false}
 use mathlib.Core.List.{List, [], _∷_}
@@ -9,8 +9,10 @@ use Rattle.multicubic.specs.declared.Saturation.the-variants.{None, InsideLow, 
 use Rattle.multicubic.specs.declared.Loc.{Loc}
 use Rattle.multicubic.specs.declared.Loc.the-variants.{At, Unplaceable}
 use Rattle.multicubic.specs.Answers.{numberOf, placeOutcome}
-use Rattle.regular_axis.specs.Place as Regular
-use Rattle.rectilinear_axis.specs.Place as Rectilinear
+use Rattle.multicubic.specs.declared.EdgeMode.{EdgeMode}
+use Rattle.multicubic.specs.declared.EdgeMode.the-variants.{Cubic, Straight, Held}
+use Rattle.regular_query.specs.Grid as Regular
+use Rattle.rectilinear_query.specs.Grid as Rectilinear
 
 pub data Axis : Type 0 where
   regular : Float → Float → ℕ → Axis
@@ -25,17 +27,17 @@ pub record Row : Type 0 where
   pub query : Float
   pub expected : Told
 
-abbrev pub locOf : Format → Axis → Float → Loc
-locOf f (regular start step n) x = Regular.locOf f start step n x
-locOf f (rectilinear entries) x = Rectilinear.locOf entries x
+abbrev pub locOf : Format → EdgeMode → Axis → Float → Loc
+locOf f mode (regular start step n) x = Regular.axisIn f mode (record { start = start; step = step; count = n }) .loc x
+locOf f mode (rectilinear entries) x = Rectilinear.axisIn f mode entries .loc x
 
 -- origin and class, or the number of clause 2.2
 abbrev pub told : Loc → Told
 told (At p) = place (p .origin) (p .class)
 told Unplaceable = refused (numberOf (placeOutcome 0 0 Unplaceable))
 
-abbrev pub answer : Format → Row → Told
-answer f r = told (locOf f (r .axis) (r .query))
+abbrev pub answer : Format → EdgeMode → Row → Told
+answer f mode r = told (locOf f mode (r .axis) (r .query))
 
 -- start 0, step 1, n = 5
 abbrev regularRow : Float → Told → Row
@@ -65,3 +67,16 @@ rows =
     ∷ rectilinearRow (fin false 7 (pos 0)) (place 1 InsideHigh)
     ∷ rectilinearRow (fin false 1 (pos 3)) (place 1 OutsideHigh)
     ∷ []
+
+-- held, the queries past an end have the places of its node
+unfoldable pub heldRows : List Row
+heldRows =
+    regularRow (fin true 1 (negsuc 0)) (place 0 InsideLow)
+    ∷ regularRow (fin false 1 (pos 63)) (place 1 OutsideHigh)
+    ∷ rectilinearRow (fin false 1 (pos 3)) (place 1 InsideHigh)
+    ∷ []
+
+abbrev pub rowsIn : EdgeMode → List Row
+rowsIn Cubic = rows
+rowsIn Straight = rows
+rowsIn Held = heldRows

@@ -11,7 +11,7 @@ use Rattle.multicubic.specs.declared.Place.{Place}
 use Rattle.multicubic.specs.declared.Loc.{Loc}
 use Rattle.multicubic.specs.declared.Loc.the-variants.{At, Unplaceable}
 use Rattle.multicubic.specs.declared.EdgeMode.{EdgeMode}
-use Rattle.multicubic.specs.declared.EdgeMode.the-variants.{Cubic, Straight}
+use Rattle.multicubic.specs.declared.EdgeMode.the-variants.{Cubic, Straight, Held}
 
 -- L raised to 0, then lowered to n-4
 unfoldable pub originOf : ℕ → ℤ → ℕ
@@ -42,6 +42,7 @@ nowhere = record { origin = 0; class = None }
 abbrev pub straightOf : EdgeMode → Bool
 straightOf Cubic = false
 straightOf Straight = true
+straightOf Held = false
 
 -- What an axis gives to everything above it, for a query: nothing where it is unplaceable, else the place, the four weights and
 -- the four derivative weights.

@@ -1,6 +1,6 @@
 // Port of src/multicubic/mod.rs (`Saturation`), and what both kinds of grid share: places, answers and checks 1 to 4.
 ghost use mathlib.Core.Path.{_≡_};
-ghost use mathlib.Core.Bool.{false};
+ghost use mathlib.Core.Bool.{false, _||_};
 ghost use Prim.Native.Nat.{_≤_};
 ghost use lib.Dec.{ltb};
 ghost use lib.IntN.{pos, _-ℤ_};
@@ -38,10 +38,18 @@ pub struct Axis {
     pub count: usize,
 }
 
-// What the two Outside classes follow; Straight is the Rust's `linearize_extrapolation`.
+// The way past an axis's ends: the cubic or the straight line, which the two Outside classes follow (Straight is the Rust's
+// `linearize_extrapolation`), or the end's node in place of the query.
 pub enum EdgeMode {
     Cubic,
     Straight,
+    Held,
+}
+
+// Past which ends of an axis a query lies.
+pub struct Marks {
+    pub below: bool,
+    pub above: bool,
 }
 
 // A single query's value, or the refusal.
@@ -182,7 +190,18 @@ pub fn linearize_extrapolation(mode: EdgeMode) -> bool
     match mode {
         EdgeMode::Cubic => false,
         EdgeMode::Straight => true,
+        EdgeMode::Held => false,
     }
+}
+
+// Whether a query lies past either end.
+pub fn is_past(marks: Marks) -> bool
+    ensures { λ r. ⌜ r ≡ (marks .below || marks .above) ⌝ }
+{
+    if marks.below {
+        return true;
+    }
+    marks.above
 }
 
 // Whether one of the first n counts is over 4,096.

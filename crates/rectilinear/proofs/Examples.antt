@@ -11,13 +11,14 @@ use lib.Ieee.{Float, nan, fin, Format, binary32, binary64, sub, lt, le, eq, fits
 use lib.Ieee.Fits.{and-l, and-r}
 use lib.Ieee.Scale.{finite}
 use Rattle.multicubic.specs.declared.EdgeMode.{EdgeMode}
+use Rattle.multicubic.specs.declared.EdgeMode.the-variants.{Cubic, Straight, Held}
 use Rattle.multicubic.specs.declared.Outcome.the-variants.{Accepted}
 use Rattle.multicubic.specs.declared.Answer.the-variants.{Value}
 use Rattle.multicubic.specs.Grid.{sizeChecks}
 use Rattle.rectilinear_order.specs.Grid.{axesOf, notRising, disorder}
 use Rattle.rectilinear_axis.specs.Nodes.{Premises}
 use Rattle.grid.specs.Query.{valueAnswer}
-use Rattle.grid.specs.Nodes.{stored}
+use Rattle.grid.specs.Nodes.{AtIndex, stored}
 use Rattle.grid.proofs.Decide.{each, all-fit}
 use Rattle.rectilinear_query.specs.Grid.{gridOf, AllPremises}
 use Rattle.rectilinear.proofs.Guarantees.{node}
@@ -59,7 +60,14 @@ taken : (f : Format) (mode : EdgeMode) → gridOf f 2 counts joined vals mode .c
 unfolding sizeChecks notRising disorder lt isNan
 taken f mode = refl
 
+-- in every setting
+at : (f : Format) (mode : EdgeMode) → AtIndex 0 (gridOf f 2 counts joined vals mode .axes) (0 ∷ 2 ∷ []) (λ a. getD query a nan)
+unfolding eq
+at f Cubic = (lit< tt, tt, (lit< tt, tt, tt))
+at f Straight = (lit< tt, tt, (lit< tt, tt, tt))
+at f Held = (lit< tt, tt, (lit< tt, tt, tt))
+
 pub met : (f : Format) (mode : EdgeMode) → (v : Float) × (valueAnswer f (gridOf f 2 counts joined vals mode) (λ a. getD query a nan) ≡ Value v) × T (eq v (stored (gridOf f 2 counts joined vals mode) (0 ∷ 2 ∷ [])))
-unfolding fits eq
-met binary32 mode = node binary32 2 counts joined (each (fits binary32) joined tt) (premises binary32) (0 ∷ 2 ∷ []) (λ a. getD query a nan) (all-fit binary32 query tt) vals mode (taken binary32 mode) (each finite vals tt) (each (fits binary32) vals tt) (lit< tt, tt, (lit< tt, tt, tt))
-met binary64 mode = node binary64 2 counts joined (each (fits binary64) joined tt) (premises binary64) (0 ∷ 2 ∷ []) (λ a. getD query a nan) (all-fit binary64 query tt) vals mode (taken binary64 mode) (each finite vals tt) (each (fits binary64) vals tt) (lit< tt, tt, (lit< tt, tt, tt))
+unfolding fits
+met binary32 mode = node binary32 2 counts joined (each (fits binary32) joined tt) (premises binary32) (0 ∷ 2 ∷ []) (λ a. getD query a nan) (all-fit binary32 query tt) vals mode (taken binary32 mode) (each finite vals tt) (each (fits binary32) vals tt) (at binary32 mode)
+met binary64 mode = node binary64 2 counts joined (each (fits binary64) joined tt) (premises binary64) (0 ∷ 2 ∷ []) (λ a. getD query a nan) (all-fit binary64 query tt) vals mode (taken binary64 mode) (each finite vals tt) (each (fits binary64) vals tt) (at binary64 mode)

@@ -1,23 +1,29 @@
--- Clause 8.3 of each axis of a rectilinear grid that is accepted and within the premises.
-use mathlib.Core.Path.{_≡_}
-use mathlib.Core.Bool.{Bool}
-use mathlib.Core.List.{List, [], _∷_}
-use Prim.Native.Nat.{ℕ, _+_, _-_, _<_, min}
+-- Clauses 8.3 and 8.6 of each axis of a rectilinear grid that is accepted and within the premises.
+use mathlib.Core.Path.{_≡_, refl, sym, ap, subst}
+use mathlib.Core.Bool.{Bool, false}
+use mathlib.Core.List.{List, [], _∷_, map}
+use Prim.Native.Nat.{ℕ, _+_, _-_, _≤_, _<_, min}
 use native.Mathlib.Omega.{arith}
+use lib.Dec.{T}
 use lib.IntN.{pos, _-ℤ_}
 use lib.ListN.{length, take, drop, length-take, length-drop}
 use lib.Seq.{getD-take, getD-drop}
-use lib.Ieee.{Float, nan, Format}
+use lib.Ieee.{Float, nan, Format, fits}
 use Rattle.multicubic.specs.declared.EdgeMode.{EdgeMode}
+use Rattle.multicubic.specs.declared.EdgeMode.the-variants.{Cubic, Held}
 use Rattle.multicubic.specs.declared.Outcome.the-variants.{Accepted}
 use Rattle.multicubic.specs.Grid.{sum}
-use Rattle.multicubic.specs.Place.{straightOf}
 use Rattle.rectilinear_order.specs.Grid.{axesOf}
-use Rattle.rectilinear_axis.proofs.AtNodes.{at-node}
-use Rattle.grid.proofs.Premises.{NodeLaws, Long}
-use Rattle.grid.specs.Nodes.{Fits}
+use Rattle.rectilinear_axis.specs.Nodes.{Premises}
+use Rattle.rectilinear_axis.proofs.AtNodes.{node-finite, nodes-rise, at-node}
+use Rattle.grid.specs.Query.{GridAxis, heldAxis}
+use Rattle.grid.specs.Edges.{AtClamped}
+use Rattle.grid.specs.Nodes.{All, Fits}
+use Rattle.grid.proofs.Premises.{NodeLaw, NodeLaws, Long}
+use Rattle.grid.proofs.AtNodes.{AtEach}
+use Rattle.grid.proofs.Edges.{InOrder, edge-law, clamped-each}
 use Rattle.grid.proofs.Sizes.{all-long}
-use Rattle.rectilinear_query.specs.Grid.{gridAxes, gridOf, AllPremises}
+use Rattle.rectilinear_query.specs.Grid.{gridAxis, axisIn, gridAxes, axesIn, gridOf, AllPremises}
 use Rattle.rectilinear_query.proofs.Sizes.{part-length, rest-length, passed, joined-length}
 
 -- a part's entries are entries of the whole
@@ -32,15 +38,52 @@ module _ (f : Format) (c : ℕ) (joined : List Float) (fit : Fits f joined) wher
       let l : k < length joined - c = rw length-drop at h in
       rw (getD-drop c joined k nan) (fit (c + k) (omega arith))
 
-laws : (f : Format) (straight : Bool) (cs : List ℕ) (joined : List Float) → length joined ≡ sum cs → Long cs → Fits f joined → AllPremises f (axesOf cs joined) → NodeLaws f (gridAxes f straight (axesOf cs joined))
-laws f straight [] joined e long fit premises = tt
-laws f straight (c ∷ cs) joined e long fit premises =
-    let l = part-length c cs joined e in (
-      (λ i inside x held at. (pos i -ℤ pos 2, at-node f straight (take c joined) (omega (arith, long .0)) (part-fits f c joined fit) (premises .0) i inside x held at)),
-      laws f straight cs (drop c joined) (rest-length c cs joined e) (long .1) (rest-fits f c joined fit) (premises .1),
+module _ (f : Format) (g : List Float) (long : 4 ≤ length g) (fit : Fits f g) (premises : Premises f g) where
+  axis-law : (straight : Bool) → NodeLaw f (gridAxis f straight g)
+  axis-law straight i inside x held at = (pos i -ℤ pos 2, at-node f straight g long fit premises i inside x held at)
+
+  axis-order : InOrder f (gridAxis f false g)
+  axis-order = record {
+    some = omega arith;
+    fit = fit;
+    whole = λ i h. node-finite f g long fit premises i h;
+    rising = λ i j l h. nodes-rise f g long fit premises i j l h;
+  }
+
+laws : (f : Format) (mode : EdgeMode) (cs : List ℕ) (joined : List Float) → length joined ≡ sum cs → Long cs → Fits f joined → AllPremises f (axesOf cs joined) → NodeLaws f (gridAxes f mode (axesOf cs joined))
+laws f mode [] joined e long fit premises = tt
+laws f mode (c ∷ cs) joined e long fit premises =
+    let l = part-length c cs joined e in
+    let four : 4 ≤ length (take c joined) = omega (arith, long .0) in (
+      edge-law f mode (λ straight. gridAxis f straight (take c joined)) (axis-law f (take c joined) four (part-fits f c joined fit) (premises .0)) (axis-order f (take c joined) four (part-fits f c joined fit) (premises .0)),
+      laws f mode cs (drop c joined) (rest-length c cs joined e) (long .1) (rest-fits f c joined fit) (premises .1),
     )
 
-pub node-laws : (f : Format) (n : ℕ) (counts : List ℕ) (joined vals : List Float) (mode : EdgeMode) → gridOf f n counts joined vals mode .checked ≡ Accepted
-    → Fits f joined → AllPremises f (axesOf (take n counts) joined) → NodeLaws f (gridAxes f (straightOf mode) (axesOf (take n counts) joined))
-node-laws f n counts joined vals mode e =
-    laws f (straightOf mode) (take n counts) joined (joined-length n counts joined (length vals) e) (all-long (take n counts) (passed n counts joined (length vals) e .long))
+orders : (f : Format) (cs : List ℕ) (joined : List Float) → length joined ≡ sum cs → Long cs → Fits f joined → AllPremises f (axesOf cs joined) → All (InOrder f) (gridAxes f Cubic (axesOf cs joined))
+orders f [] joined e long fit premises = tt
+orders f (c ∷ cs) joined e long fit premises =
+    let l = part-length c cs joined e in
+    (axis-order f (take c joined) (omega (arith, long .0)) (part-fits f c joined fit) (premises .0), orders f cs (drop c joined) (rest-length c cs joined e) (long .1) (rest-fits f c joined fit) (premises .1))
+
+-- the axes that hold their edges are the cubic ones, held
+pub held-axes : (f : Format) (axes : List (List Float)) → map heldAxis (gridAxes f Cubic axes) ≡ gridAxes f Held axes
+held-axes f [] = refl
+held-axes f (g ∷ axes) = ap (λ (gs : List GridAxis). axisIn f Held g ∷ gs) (held-axes f axes)
+
+module _ (f : Format) (n : ℕ) (counts : List ℕ) (joined vals : List Float) (mode : EdgeMode) (e : gridOf f n counts joined vals mode .checked ≡ Accepted) (fit : Fits f joined) (premises : AllPremises f (axesOf (take n counts) joined)) where
+  total : length joined ≡ sum (take n counts)
+  total = joined-length n counts joined (length vals) e
+
+  long : Long (take n counts)
+  long = all-long (take n counts) (passed n counts joined (length vals) e .long)
+
+  pub node-laws : NodeLaws f (axesIn f mode n counts joined)
+  node-laws = laws f mode (take n counts) joined total long fit premises
+
+  -- in held mode, of a query at a node or past an end
+  pub clamped-rows : (is : List ℕ) (query : ℕ → Float) → ((a : ℕ) → T (fits f (query a))) → AtClamped 0 (axesIn f Held n counts joined) is query → AtEach 0 (axesIn f Held n counts joined) is query
+  clamped-rows is query typed at =
+      let parts = axesOf (take n counts) joined in
+      subst (λ (gs : List GridAxis). AtEach 0 gs is query) (held-axes f parts)
+      (clamped-each f query typed 0 (gridAxes f Cubic parts) is (laws f Cubic (take n counts) joined total long fit premises) (orders f (take n counts) joined total long fit premises)
+      (subst (λ (gs : List GridAxis). AtClamped 0 gs is query) (sym (held-axes f parts)) at))

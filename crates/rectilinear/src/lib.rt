@@ -1,11 +1,9 @@
 // A rectilinear grid of src/multicubic/rectilinear.rs: `new`, the place, the value and the gradient of a query.
 ghost use mathlib.Core.Path.{_≡_};
-ghost use mathlib.Core.Bool.{Bool};
 ghost use lib.ListN.{length};
 ghost use lib.Ieee.{binary64};
 ghost use Rattle.multicubic.specs.Answers.{Says, answerOutcome, valueIn};
 ghost use Rattle.multicubic.specs.Same.{asAnswer};
-ghost use Rattle.multicubic.specs.declared.EdgeMode.{EdgeMode};
 ghost use Rattle.grid.specs.Query.{find, foundOutcome, outcomeOf, at, placeAnswer, valueAnswer, valueCarried, gradientAnswer};
 ghost use Rattle.grid.specs.Internal.{Located, gradientTo};
 ghost use Rattle.rectilinear_query.specs.Grid.{checksOf, axesIn, gridOf};
@@ -20,12 +18,13 @@ use multicubic::Outcome;
 use multicubic::PlaceAnswer;
 use multicubic::answered;
 use multicubic::check_sizes;
-use multicubic::linearize_extrapolation;
 use multicubic::nowhere;
 use multicubic::outcome_of;
 use multicubic::refused_query;
+use rectilinear_axis::hold;
 use rectilinear_order::check_order;
 use rectilinear_query::answer_at;
+use rectilinear_query::replaced_at;
 use reduction::strides;
 
 // Takes a grid or turns it away: checks 1 to 6. The axes are joined one after the other.
@@ -46,16 +45,25 @@ pub fn new(axis_count: usize, counts: [usize; 4], axes: &[f64], vals: &[f64]) ->
 }
 
 // A query's place on every axis, or refusal 8 with its lowest unplaceable axis.
-fn locate(axis_count: usize, counts: [usize; 4], axes: &[f64], x: [f64; 4]) -> PlaceAnswer
+fn locate(
+    axis_count: usize,
+    counts: [usize; 4],
+    axes: &[f64],
+    mode: EdgeMode,
+    x: [f64; 4],
+) -> PlaceAnswer
     requires { ⌜ Taken «axis_count» counts (now axes) ⌝ }
-    ensures { λ r. ⌜ ((straight : Bool) → Located 0 (axesIn binary64 straight «axis_count» counts (now (axes .entry))) (at x) r) ⌝ }
+    ensures { λ r. ⌜ Located 0 (axesIn binary64 mode «axis_count» counts (now (axes .entry))) (at x) r ⌝ }
 {
     let mut places = nowhere();
     let mut start: usize = 0;
     let mut i: usize = 0;
     while i < axis_count {
         let end = start + counts[i];
-        let loc = rectilinear_axis::get_loc(&axes[start..end], x[i]);
+        let given = x[i];
+        let replaced = replaced_at(&axes[start..end], given, mode);
+        let used = hold(&axes[start..end], given, replaced);
+        let loc = rectilinear_axis::get_loc(&axes[start..end], used);
         let Loc::At(place) = loc else {
             return PlaceAnswer {
                 outcome: refused_query(0, i),
@@ -78,17 +86,12 @@ pub fn get_loc(
     counts: [usize; 4],
     axes: &[f64],
     vals: &[f64],
+    mode: EdgeMode,
     x: [f64; 4],
 ) -> PlaceAnswer
-    ensures { λ r. ⌜
-        ((mode : EdgeMode) → r .outcome ≡ outcomeOf (gridOf binary64 «axis_count» counts (now (axes .entry)) (now (vals .entry)) mode) (at x))
-        ⌝ }
-    ensures { λ r. ⌜
-        ((mode : EdgeMode) → r .places ≡ placeAnswer (gridOf binary64 «axis_count» counts (now (axes .entry)) (now (vals .entry)) mode) (at x))
-        ⌝ }
-    ensures { λ r. ⌜
-        ((mode : EdgeMode) → Says (r .outcome) (outcomeOf (gridOf binary64 «axis_count» counts (now (axes .entry)) (now (vals .entry)) mode) (at x)))
-        ⌝ }
+    ensures { λ r. ⌜ r .outcome ≡ outcomeOf (gridOf binary64 «axis_count» counts (now (axes .entry)) (now (vals .entry)) mode) (at x) ⌝ }
+    ensures { λ r. ⌜ r .places ≡ placeAnswer (gridOf binary64 «axis_count» counts (now (axes .entry)) (now (vals .entry)) mode) (at x) ⌝ }
+    ensures { λ r. ⌜ Says (r .outcome) (outcomeOf (gridOf binary64 «axis_count» counts (now (axes .entry)) (now (vals .entry)) mode) (at x)) ⌝ }
 {
     let checked = new(axis_count, counts, axes, vals);
     match checked {
@@ -96,7 +99,7 @@ pub fn get_loc(
             outcome: checked,
             places: nowhere(),
         },
-        Outcome::Accepted => locate(axis_count, counts, axes, x),
+        Outcome::Accepted => locate(axis_count, counts, axes, mode, x),
     }
 }
 
@@ -121,7 +124,7 @@ pub fn interp_one(
             counts,
             axes,
             vals,
-            linearize_extrapolation(mode),
+            mode,
             strides(axis_count, counts),
             &x,
             1,
@@ -137,17 +140,17 @@ fn gradient_at(
     counts: [usize; 4],
     axes: &[f64],
     vals: &[f64],
-    linearize_extrapolation: bool,
+    mode: EdgeMode,
     strides: [usize; 4],
     x: [f64; 4],
 ) -> GradientAnswer
     requires { ⌜ Ready «axis_count» counts (now axes) (length (now vals)) strides ⌝ }
     ensures { λ r. ⌜
-        r .outcome ≡ foundOutcome 0 (find 0 (axesIn binary64 «linearize_extrapolation» «axis_count» counts (now (axes .entry))) (at x))
+        r .outcome ≡ foundOutcome 0 (find 0 (axesIn binary64 mode «axis_count» counts (now (axes .entry))) (at x))
         ⌝ }
     ensures { λ r. ⌜
-        r .gradient ≡ gradientTo binary64 (axesIn binary64 «linearize_extrapolation» «axis_count» counts (now (axes .entry))) (now (vals .entry))
-        (find 0 (axesIn binary64 «linearize_extrapolation» «axis_count» counts (now (axes .entry))) (at x))
+        r .gradient ≡ gradientTo binary64 (axesIn binary64 mode «axis_count» counts (now (axes .entry))) (now (vals .entry))
+        (find 0 (axesIn binary64 mode «axis_count» counts (now (axes .entry))) (at x))
         ⌝ }
 {
     let mut gradient = [0.0; 4];
@@ -158,7 +161,7 @@ fn gradient_at(
             counts,
             axes,
             vals,
-            linearize_extrapolation,
+            mode,
             strides,
             &x,
             1,
@@ -210,7 +213,7 @@ pub fn interp_one_grad(
             counts,
             axes,
             vals,
-            linearize_extrapolation(mode),
+            mode,
             strides(axis_count, counts),
             x,
         ),

@@ -2,7 +2,7 @@
 -- one at the node's place in the block.
 use mathlib.Core.Path.{_≡_, refl, sym, ap, _∙_, subst}
 use mathlib.Core.Logic.{inl, inr}
-use mathlib.Core.Bool.{Bool}
+use mathlib.Core.Bool.{Bool, false}
 use mathlib.Core.List.{List, [], _∷_}
 use Prim.Native.Nat.{ℕ, zero, suc, _+_, _-_, _≤_, _<_}
 use native.Mathlib.Nat.{eq-or-lt-of-le}
@@ -10,7 +10,8 @@ use native.Mathlib.Omega.{arith}
 use lib.IntN.{pos, _-ℤ_}
 use lib.Dec.{T}
 use lib.ListN.{length, getD}
-use lib.Ieee.{Float, nan, Format, eq, fits}
+use lib.Ieee.{Float, nan, Format, lt, eq, fits}
+use lib.Ieee.Scale.{finite}
 use Rattle.ieee.proofs.ZeroOne.{Same}
 use Rattle.ieee.proofs.Cancel.{eq→same}
 use Rattle.ieee.proofs.Gap.{within}
@@ -26,7 +27,7 @@ use Rattle.rectilinear_axis.specs.Weights.{weightsOf, weightsAt, derivat
 use Rattle.rectilinear_axis.specs.Nodes.{Premises}
 use Rattle.rectilinear_axis.proofs.Cell.{entries}
 use Rattle.rectilinear_axis.proofs.Blocks.{Held, Gap, first, second, mid, last}
-use Rattle.rectilinear_axis.proofs.Count.{entry, counted}
+use Rattle.rectilinear_axis.proofs.Count.{entry, counted, nodes-rise as rise}
 
 -- the outcome of an axis for a query
 abbrev pub outcomeOf : Format → List Float → Bool → Float → AxisOutcome
@@ -96,6 +97,13 @@ module _ (f : Format) (straight : Bool) (g : List Float) (four : 4 ≤ length g)
         low = r .0;
         row = r .1;
       }
+
+-- under the same premises every entry is finite, and none is below one before it
+pub node-finite : (f : Format) (g : List Float) → 4 ≤ length g → ((k : ℕ) → k < length g → T (fits f (getD g k nan))) → Premises f g → (i : ℕ) → i < length g → T (finite (getD g i nan))
+node-finite f g four held ok i h = node f false g four held ok nan i h .0
+
+pub nodes-rise : (f : Format) (g : List Float) → 4 ≤ length g → ((k : ℕ) → k < length g → T (fits f (getD g k nan))) → Premises f g → (i j : ℕ) → i ≤ j → j < length g → lt (getD g j nan) (getD g i nan) ≡ false
+nodes-rise f g four held ok i j l h = rise f g four held (gaps f false g four held ok nan) i j l h
 
 -- the query equals entry i as a number, so it may be -0 where that is +0
 pub at-node : (f : Format) (straight : Bool) (g : List Float) → 4 ≤ length g → ((k : ℕ) → k < length g → T (fits f (getD g k nan))) → Premises f g

@@ -14,7 +14,7 @@ use Rattle.ieee.proofs.Gap.{Apart, gap-apart}
 use Rattle.rectilinear_order.specs.Grid.{disorder}
 use Rattle.rectilinear_axis.specs.Place.{countBelow}
 use Rattle.rectilinear_order.proofs.Order.{not-true, rises}
-use Rattle.rectilinear_axis.proofs.Search.{Below, NotBelow, all-to, none-from, count-is}
+use Rattle.rectilinear_axis.proofs.Search.{Below, NotBelow, all-to, none-from, count-is, entries-rise}
 use Rattle.rectilinear_axis.proofs.Blocks.{Held, Gap}
 
 lt→le : (x y : Float) → T (lt x y) → le x y ≡ true
@@ -31,6 +31,9 @@ module _ (f : Format) (g : List Float) (four : 4 ≤ length g) (held : (k : ℕ)
 
   in-order : disorder g ≡ false
   in-order = rises g (omega arith) (λ k h. lt→le (getD g k nan) (getD g (suc k) nan) (apart k h .rises))
+
+  pub nodes-rise : (i j : ℕ) → i ≤ j → j < length g → lt (getD g j nan) (getD g i nan) ≡ false
+  nodes-rise i j l h = entries-rise g in-order i j l h
 
   module _ (x : Float) (p : T (fits f x)) where
     not-here : (i : ℕ) → i < length g → Same x (getD g i nan) → NotBelow g x i

@@ -9,7 +9,7 @@ use native.Mathlib.Omega.{arith}
 use lib.ListN.{length, getD}
 use lib.Ieee.{Float, nan, lt}
 use mir.Val.{boolByte}
-use Rattle.ieee.proofs.Order.{le-lt-trans}
+use Rattle.ieee.proofs.Order.{le-lt-trans, lt-irrefl}
 use Rattle.rectilinear_order.specs.Grid.{disorder}
 use Rattle.rectilinear_axis.specs.Place.{countBelow}
 use Rattle.rectilinear_axis.specs.Internal.{Test, Forward}
@@ -67,6 +67,10 @@ module _ (g : List Float) (x : Float) (o : disorder g ≡ false) where
   pub test-is : (k : ℕ) → k < length g → (b : Bool) → lt (getD g k nan) x ≡ b → Test (boolByte b) k (countBelow x g)
   test-is k h true e = inl (refl, before-count k h e)
   test-is k h false e = inr (refl, not-before k e)
+
+-- no entry from place i on is below entry i
+pub entries-rise : (g : List Float) → disorder g ≡ false → (i j : ℕ) → i ≤ j → j < length g → lt (getD g j nan) (getD g i nan) ≡ false
+entries-rise g o i j l h = none-from g (getD g i nan) o i (lt-irrefl (getD g i nan)) j l h
 
 -- ---- the search's steps, over numbers
 pub test-upto : (r k c : ℕ) → Test r k c → r ≤ 1

@@ -1,9 +1,9 @@
 // One axis of src/multicubic/rectilinear.rs: the place of a query, and the weights of its block.
 ghost use mathlib.Core.Path.{_≡_};
-ghost use mathlib.Core.Bool.{false};
-ghost use Prim.Native.Nat.{_+_, _*_, _≤_, _<_};
-ghost use lib.ListN.{length};
-ghost use lib.Ieee.{binary64};
+ghost use mathlib.Core.Bool.{false, cond};
+ghost use Prim.Native.Nat.{_+_, _-_, _*_, _≤_, _<_};
+ghost use lib.ListN.{length, getD};
+ghost use lib.Ieee.{binary64, nan, lt};
 ghost use Rattle.rectilinear_order.specs.Grid.{disorder};
 ghost use Rattle.multicubic.specs.Answers.{numberOf, placeOutcome, placeIn};
 ghost use Rattle.rectilinear_axis.specs.Place.{countBelow, locOf, locPlace};
@@ -13,6 +13,7 @@ use interp_math::hermite_basis;
 use interp_math::hermite_basis_derivative;
 use interp_math::scale_weights;
 use multicubic::Loc;
+use multicubic::Marks;
 use multicubic::Place;
 use multicubic::Saturation;
 use multicubic::place_from;
@@ -86,6 +87,36 @@ pub fn get_loc(grid: &[f64], v: f64) -> Loc
 {
     let n = grid.len();
     Loc::At(place_from(n, partition_point(grid, v)))
+}
+
+// Past which ends of the axis v lies.
+pub fn marks_at(grid: &[f64], v: f64) -> Marks
+    requires { ⌜ 4 ≤ length (now grid) ⌝ }
+    ensures { λ r. ⌜ r .below ≡ lt v (getD (now (grid .entry)) 0 nan) ⌝ }
+    ensures { λ r. ⌜ r .above ≡ lt (getD (now (grid .entry)) (length (now (grid .entry)) - 1) nan) v ⌝ }
+{
+    let last = grid.len() - 1;
+    Marks {
+        below: v < grid[0],
+        above: grid[last] < v,
+    }
+}
+
+// v, or the node of the end that it is past.
+pub fn hold(grid: &[f64], v: f64, marks: Marks) -> f64
+    requires { ⌜ 4 ≤ length (now grid) ⌝ }
+    ensures { λ r. ⌜
+        r ≡ cond (marks .below) (getD (now (grid .entry)) 0 nan)
+        (cond (marks .above) (getD (now (grid .entry)) (length (now (grid .entry)) - 1) nan) v)
+        ⌝ }
+{
+    if marks.below {
+        return grid[0];
+    }
+    if marks.above {
+        return grid[grid.len() - 1];
+    }
+    v
 }
 
 // The block's four entries.

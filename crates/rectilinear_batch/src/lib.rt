@@ -15,7 +15,6 @@ use grid::check_values;
 use multicubic::Answer;
 use multicubic::EdgeMode;
 use multicubic::Outcome;
-use multicubic::linearize_extrapolation;
 use multicubic::outcome_of;
 use rectilinear::new;
 use rectilinear_query::answer_at;
@@ -27,7 +26,7 @@ fn fill(
     counts: [usize; 4],
     axes: &[f64],
     vals: &[f64],
-    linearize_extrapolation: bool,
+    mode: EdgeMode,
     strides: [usize; 4],
     queries: &[f64],
     quantity: Quantity,
@@ -38,13 +37,13 @@ fn fill(
     requires { ⌜ Asked «axis_count» quantity ⌝ }
     ensures { λ r. ⌜
         r ≡ outcomeFrom
-        (foundAt (axesIn binary64 «linearize_extrapolation» «axis_count» counts (now (axes .entry))) (length (now (out .entry))) (now (queries .entry)))
+        (foundAt (axesIn binary64 mode «axis_count» counts (now (axes .entry))) (length (now (out .entry))) (now (queries .entry)))
         0 (length (now (out .entry)))
         ⌝ }
     ensures { λ r. ⌜
         now (out .exit) ≡ runFrom
-        (foundAt (axesIn binary64 «linearize_extrapolation» «axis_count» counts (now (axes .entry))) (length (now (out .entry))) (now (queries .entry)))
-        (putQuantity binary64 (gridCounts (axesIn binary64 «linearize_extrapolation» «axis_count» counts (now (axes .entry)))) (now (vals .entry)) quantity)
+        (foundAt (axesIn binary64 mode «axis_count» counts (now (axes .entry))) (length (now (out .entry))) (now (queries .entry)))
+        (putQuantity binary64 (gridCounts (axesIn binary64 mode «axis_count» counts (now (axes .entry)))) (now (vals .entry)) quantity)
         0 (length (now (out .entry))) (now (out .entry))
         ⌝ }
 {
@@ -56,7 +55,7 @@ fn fill(
             counts,
             axes,
             vals,
-            linearize_extrapolation,
+            mode,
             strides,
             queries,
             count,
@@ -114,7 +113,7 @@ pub fn interp(
             counts,
             axes,
             vals,
-            linearize_extrapolation(mode),
+            mode,
             strides(axis_count, counts),
             queries,
             Quantity::Value,
@@ -129,7 +128,7 @@ fn fill_columns(
     counts: [usize; 4],
     axes: &[f64],
     vals: &[f64],
-    linearize_extrapolation: bool,
+    mode: EdgeMode,
     strides: [usize; 4],
     queries: &[f64],
     count: usize,
@@ -138,16 +137,16 @@ fn fill_columns(
     requires { ⌜ Ready «axis_count» counts (now axes) (length (now vals)) strides ⌝ }
     requires { ⌜ (length (now queries) ≡ «axis_count» * count) × (length (now out) ≡ «axis_count» * count) ⌝ }
     ensures { λ r. ⌜
-        r ≡ outcomeFrom (foundAt (axesIn binary64 «linearize_extrapolation» «axis_count» counts (now (axes .entry))) count (now (queries .entry)))
+        r ≡ outcomeFrom (foundAt (axesIn binary64 mode «axis_count» counts (now (axes .entry))) count (now (queries .entry)))
         0 count
         ⌝ }
     ensures { λ r. ⌜
         FilledColumns
-        (componentIn binary64 (axesIn binary64 «linearize_extrapolation» «axis_count» counts (now (axes .entry)))
+        (componentIn binary64 (axesIn binary64 mode «axis_count» counts (now (axes .entry)))
         (now (vals .entry)) count (now (queries .entry)))
         «axis_count» count
         (answeredBefore
-        (outcomeFrom (foundAt (axesIn binary64 «linearize_extrapolation» «axis_count» counts (now (axes .entry))) count (now (queries .entry)))
+        (outcomeFrom (foundAt (axesIn binary64 mode «axis_count» counts (now (axes .entry))) count (now (queries .entry)))
         0 count) count)
         (now (out .entry)) (now (out .exit))
         ⌝ }
@@ -162,7 +161,7 @@ fn fill_columns(
             counts,
             axes,
             vals,
-            linearize_extrapolation,
+            mode,
             strides,
             queries,
             Quantity::Component(d),
@@ -210,7 +209,7 @@ pub fn interp_grad(
             counts,
             axes,
             vals,
-            linearize_extrapolation(mode),
+            mode,
             strides(axis_count, counts),
             queries,
             out.len() / axis_count,

@@ -15,7 +15,6 @@ use grid::check_gradients;
 use grid::check_values;
 use multicubic::EdgeMode;
 use multicubic::Outcome;
-use multicubic::linearize_extrapolation;
 use multicubic_f32::AnswerF32;
 use multicubic_f32::outcome_of;
 use rectilinear_f32::new;
@@ -28,7 +27,7 @@ fn fill(
     counts: [usize; 4],
     axes: &[f32],
     vals: &[f32],
-    linearize_extrapolation: bool,
+    mode: EdgeMode,
     strides: [usize; 4],
     queries: &[f32],
     quantity: Quantity,
@@ -39,13 +38,13 @@ fn fill(
     requires { ⌜ Asked «axis_count» quantity ⌝ }
     ensures { λ r. ⌜
         r ≡ outcomeFrom
-        (foundAt (axesIn binary32 «linearize_extrapolation» «axis_count» counts (now (axes .entry))) (length (now (out .entry))) (now (queries .entry)))
+        (foundAt (axesIn binary32 mode «axis_count» counts (now (axes .entry))) (length (now (out .entry))) (now (queries .entry)))
         0 (length (now (out .entry)))
         ⌝ }
     ensures { λ r. ⌜
         now (out .exit) ≡ runFrom
-        (foundAt (axesIn binary32 «linearize_extrapolation» «axis_count» counts (now (axes .entry))) (length (now (out .entry))) (now (queries .entry)))
-        (putQuantity binary32 (gridCounts (axesIn binary32 «linearize_extrapolation» «axis_count» counts (now (axes .entry)))) (now (vals .entry)) quantity)
+        (foundAt (axesIn binary32 mode «axis_count» counts (now (axes .entry))) (length (now (out .entry))) (now (queries .entry)))
+        (putQuantity binary32 (gridCounts (axesIn binary32 mode «axis_count» counts (now (axes .entry)))) (now (vals .entry)) quantity)
         0 (length (now (out .entry))) (now (out .entry))
         ⌝ }
 {
@@ -57,7 +56,7 @@ fn fill(
             counts,
             axes,
             vals,
-            linearize_extrapolation,
+            mode,
             strides,
             queries,
             count,
@@ -115,7 +114,7 @@ pub fn interp(
             counts,
             axes,
             vals,
-            linearize_extrapolation(mode),
+            mode,
             strides(axis_count, counts),
             queries,
             Quantity::Value,
@@ -130,7 +129,7 @@ fn fill_columns(
     counts: [usize; 4],
     axes: &[f32],
     vals: &[f32],
-    linearize_extrapolation: bool,
+    mode: EdgeMode,
     strides: [usize; 4],
     queries: &[f32],
     count: usize,
@@ -139,16 +138,16 @@ fn fill_columns(
     requires { ⌜ Ready «axis_count» counts (now axes) (length (now vals)) strides ⌝ }
     requires { ⌜ (length (now queries) ≡ «axis_count» * count) × (length (now out) ≡ «axis_count» * count) ⌝ }
     ensures { λ r. ⌜
-        r ≡ outcomeFrom (foundAt (axesIn binary32 «linearize_extrapolation» «axis_count» counts (now (axes .entry))) count (now (queries .entry)))
+        r ≡ outcomeFrom (foundAt (axesIn binary32 mode «axis_count» counts (now (axes .entry))) count (now (queries .entry)))
         0 count
         ⌝ }
     ensures { λ r. ⌜
         FilledColumns
-        (componentIn binary32 (axesIn binary32 «linearize_extrapolation» «axis_count» counts (now (axes .entry)))
+        (componentIn binary32 (axesIn binary32 mode «axis_count» counts (now (axes .entry)))
         (now (vals .entry)) count (now (queries .entry)))
         «axis_count» count
         (answeredBefore
-        (outcomeFrom (foundAt (axesIn binary32 «linearize_extrapolation» «axis_count» counts (now (axes .entry))) count (now (queries .entry)))
+        (outcomeFrom (foundAt (axesIn binary32 mode «axis_count» counts (now (axes .entry))) count (now (queries .entry)))
         0 count) count)
         (now (out .entry)) (now (out .exit))
         ⌝ }
@@ -163,7 +162,7 @@ fn fill_columns(
             counts,
             axes,
             vals,
-            linearize_extrapolation,
+            mode,
             strides,
             queries,
             Quantity::Component(d),
@@ -211,7 +210,7 @@ pub fn interp_grad(
             counts,
             axes,
             vals,
-            linearize_extrapolation(mode),
+            mode,
             strides(axis_count, counts),
             queries,
             out.len() / axis_count,

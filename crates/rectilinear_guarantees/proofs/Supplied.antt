@@ -7,12 +7,16 @@ use native.Mathlib.Omega.{arith}
 use lib.ListN.{length, take}
 use lib.Ieee.{Float, Format}
 use Rattle.multicubic.specs.declared.EdgeMode.{EdgeMode}
+use Rattle.multicubic.specs.declared.EdgeMode.the-variants.{Held}
 use Rattle.grid.specs.Query.{at}
+use Rattle.grid.specs.Edges.{AtClamped}
+use Rattle.grid.proofs.AtNodes.{AtEach}
 use Rattle.rectilinear_order.specs.Grid.{axesOf}
 use Rattle.rectilinear_query.specs.Grid.{gridOf, AllPremises}
 use Rattle.rectilinear_query.proofs.Sizes.{passed, sized}
-use Rattle.rectilinear.proofs.Laws.{node-laws}
+use Rattle.rectilinear.proofs.Laws.{node-laws, clamped-rows}
 use Rattle.rectilinear.proofs.Guarantees.{axes-counted}
+use Rattle.guarantees.specs.Statements.{IsAccepted}
 use Rattle.guarantees.proofs.Typing.{Typed}
 use Rattle.guarantees.proofs.Nodes.{Supplied}
 use Rattle.guarantees.proofs.Blocks.{Counted}
@@ -25,3 +29,8 @@ module _ (f : Format) (n : ℕ) (counts : List ℕ) (joined vals : List Float) (
   counted four taken =
       let few : n ≤ 4 = passed n counts joined (length vals) taken .few in
       (axes-counted f n counts joined vals mode (omega arith), few)
+
+-- the rows of a query that is at a node or past an end, where the edges are held
+pub clamped : (f : Format) (n : ℕ) (counts : List ℕ) (joined vals : List Float) → Typed f (at joined) → (query : ℕ → Float) → Typed f query
+    → IsAccepted (gridOf f n counts joined vals Held) → AllPremises f (axesOf (take n counts) joined) → (is : List ℕ) → AtClamped 0 (gridOf f n counts joined vals Held .axes) is query → AtEach 0 (gridOf f n counts joined vals Held .axes) is query
+clamped f n counts joined vals entries query typed taken premises is at = clamped-rows f n counts joined vals Held taken (λ k l. entries k) premises is query typed at

@@ -3,12 +3,14 @@ ghost use mathlib.Core.Path.{_≡_};
 ghost use lib.ListN.{take};
 ghost use lib.Ieee.{binary64};
 ghost use Rattle.multicubic.specs.Same.{asAnswer};
-ghost use Rattle.grid.specs.Query.{at};
+ghost use Rattle.multicubic.specs.declared.EdgeMode.the-variants.{Held};
+ghost use Rattle.grid.specs.Query.{at, valueAnswer};
 ghost use Rattle.grid.specs.Batch.{interpOutcome};
 ghost use Rattle.rectilinear_order.specs.Grid.{axesOf};
 ghost use Rattle.rectilinear_query.specs.Grid.{gridOf, AllPremises};
-ghost use Rattle.guarantees.specs.Statements.{AnswersOf, BuffersOf, OwedAlone, OwedInBatch};
+ghost use Rattle.guarantees.specs.Statements.{AnswersOf, BuffersOf, HeldEdge, OwedAlone, OwedInBatch};
 use guarantees::TwoTables;
+use multicubic::Answer;
 use multicubic::EdgeMode;
 use multicubic::Outcome;
 
@@ -100,4 +102,19 @@ pub fn in_batch(
         other_grad,
     );
     outcome
+}
+
+// Clause 8.6: a query past the ends, or at nodes, of a grid that holds its edges.
+pub fn held_edge(
+    axis_count: usize,
+    counts: [usize; 4],
+    axes: &[f64],
+    vals: &[f64],
+    x: [f64; 4],
+) -> Answer
+    ensures { λ r. ⌜ HeldEdge (AllPremises binary64 (axesOf (take «axis_count» counts) (now (axes .entry))))
+        (gridOf binary64 «axis_count» counts (now (axes .entry)) (now (vals .entry)) Held) (at x) (asAnswer r) ⌝ }
+    ensures { λ r. ⌜ asAnswer r ≡ valueAnswer binary64 (gridOf binary64 «axis_count» counts (now (axes .entry)) (now (vals .entry)) Held) (at x) ⌝ }
+{
+    rectilinear::interp_one(axis_count, counts, axes, vals, EdgeMode::Held, x)
 }

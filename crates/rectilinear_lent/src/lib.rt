@@ -3,21 +3,20 @@
 ghost use mathlib.Core.Path.{_≡_};
 ghost use lib.ListN.{length};
 ghost use lib.Ieee.{binary64};
-ghost use Rattle.multicubic.specs.declared.EdgeMode.{EdgeMode};
 ghost use Rattle.multicubic.specs.Same.{asAnswer};
 ghost use Rattle.grid.specs.Query.{at, valueAnswer};
-ghost use Rattle.slices.specs.Slices.{modeOf, lower};
+ghost use Rattle.slices.specs.Slices.{lower};
 ghost use Rattle.slices.specs.Lent.{lent};
 ghost use Rattle.slices.specs.Internal.{PlacesOn, GradientOn, InterpOn, InterpGradOn};
 ghost use Rattle.rectilinear_query.specs.Grid.{checksOf, gridOf};
 use multicubic::Answer;
+use multicubic::EdgeMode;
 use multicubic::GradientAnswer;
 use multicubic::Outcome;
 use multicubic::PlaceAnswer;
 use multicubic::answered;
 use multicubic::nowhere;
 use slices::lower;
-use slices::mode_of;
 
 // The refusal of the slices, or the grid's own.
 pub fn new(
@@ -39,16 +38,17 @@ pub fn get_loc(
     counts: [usize; 4],
     axes: &[f64],
     vals: &[f64],
+    mode: EdgeMode,
     x: [f64; 4],
 ) -> PlaceAnswer
-    ensures { λ r. ⌜ ((mode : EdgeMode) → PlacesOn (lent slices (gridOf binary64 «axis_count» counts (now (axes .entry)) (now (vals .entry)) mode)) x (r .outcome) (r .places)) ⌝ }
+    ensures { λ r. ⌜ PlacesOn (lent slices (gridOf binary64 «axis_count» counts (now (axes .entry)) (now (vals .entry)) mode)) x (r .outcome) (r .places) ⌝ }
 {
     match slices {
         Outcome::Refused { .. } => PlaceAnswer {
             outcome: new(slices, axis_count, counts, axes, vals),
             places: nowhere(),
         },
-        Outcome::Accepted => rectilinear::get_loc(axis_count, counts, axes, vals, x),
+        Outcome::Accepted => rectilinear::get_loc(axis_count, counts, axes, vals, mode, x),
     }
 }
 
@@ -59,16 +59,14 @@ pub fn interp_one(
     counts: [usize; 4],
     axes: &[f64],
     vals: &[f64],
-    straight: bool,
+    mode: EdgeMode,
     x: [f64; 4],
 ) -> Answer
-    ensures { λ r. ⌜ asAnswer r ≡ valueAnswer binary64 (lent slices (gridOf binary64 «axis_count» counts (now (axes .entry)) (now (vals .entry)) (modeOf straight))) (at x) ⌝ }
+    ensures { λ r. ⌜ asAnswer r ≡ valueAnswer binary64 (lent slices (gridOf binary64 «axis_count» counts (now (axes .entry)) (now (vals .entry)) mode)) (at x) ⌝ }
 {
     match slices {
         Outcome::Refused { .. } => answered(new(slices, axis_count, counts, axes, vals), 0.0),
-        Outcome::Accepted => {
-            rectilinear::interp_one(axis_count, counts, axes, vals, mode_of(straight), x)
-        }
+        Outcome::Accepted => rectilinear::interp_one(axis_count, counts, axes, vals, mode, x),
     }
 }
 
@@ -79,19 +77,17 @@ pub fn interp_one_grad(
     counts: [usize; 4],
     axes: &[f64],
     vals: &[f64],
-    straight: bool,
+    mode: EdgeMode,
     x: [f64; 4],
 ) -> GradientAnswer
-    ensures { λ r. ⌜ GradientOn binary64 (lent slices (gridOf binary64 «axis_count» counts (now (axes .entry)) (now (vals .entry)) (modeOf straight))) x (r .outcome) (r .gradient) ⌝ }
+    ensures { λ r. ⌜ GradientOn binary64 (lent slices (gridOf binary64 «axis_count» counts (now (axes .entry)) (now (vals .entry)) mode)) x (r .outcome) (r .gradient) ⌝ }
 {
     match slices {
         Outcome::Refused { .. } => GradientAnswer {
             outcome: new(slices, axis_count, counts, axes, vals),
             gradient: [0.0, 0.0, 0.0, 0.0],
         },
-        Outcome::Accepted => {
-            rectilinear::interp_one_grad(axis_count, counts, axes, vals, mode_of(straight), x)
-        }
+        Outcome::Accepted => rectilinear::interp_one_grad(axis_count, counts, axes, vals, mode, x),
     }
 }
 
@@ -102,27 +98,19 @@ pub fn interp(
     counts: [usize; 4],
     axes: &[f64],
     vals: &[f64],
-    straight: bool,
+    mode: EdgeMode,
     queries: &[f64],
     out: &mut [f64],
 ) -> Outcome
     ensures { λ r. ⌜
-        InterpOn binary64 (lent slices (gridOf binary64 «axis_count» counts (now (axes .entry)) (now (vals .entry)) (modeOf straight)))
+        InterpOn binary64 (lent slices (gridOf binary64 «axis_count» counts (now (axes .entry)) (now (vals .entry)) mode))
         (now (queries .entry)) (now (out .entry)) r (now (out .exit))
         ⌝ }
 {
     match slices {
         Outcome::Refused { .. } => new(slices, axis_count, counts, axes, vals),
         Outcome::Accepted => {
-            rectilinear_batch::interp(
-                axis_count,
-                counts,
-                axes,
-                vals,
-                mode_of(straight),
-                queries,
-                out,
-            )
+            rectilinear_batch::interp(axis_count, counts, axes, vals, mode, queries, out)
         }
     }
 }
@@ -134,27 +122,19 @@ pub fn interp_grad(
     counts: [usize; 4],
     axes: &[f64],
     vals: &[f64],
-    straight: bool,
+    mode: EdgeMode,
     queries: &[f64],
     out: &mut [f64],
 ) -> Outcome
     ensures { λ r. ⌜
-        InterpGradOn binary64 (lent slices (gridOf binary64 «axis_count» counts (now (axes .entry)) (now (vals .entry)) (modeOf straight)))
+        InterpGradOn binary64 (lent slices (gridOf binary64 «axis_count» counts (now (axes .entry)) (now (vals .entry)) mode))
         (now (queries .entry)) (now (out .entry)) r (now (out .exit))
         ⌝ }
 {
     match slices {
         Outcome::Refused { .. } => new(slices, axis_count, counts, axes, vals),
         Outcome::Accepted => {
-            rectilinear_batch::interp_grad(
-                axis_count,
-                counts,
-                axes,
-                vals,
-                mode_of(straight),
-                queries,
-                out,
-            )
+            rectilinear_batch::interp_grad(axis_count, counts, axes, vals, mode, queries, out)
         }
     }
 }

@@ -4,13 +4,13 @@
 ghost use mathlib.Core.Path.{_≡_};
 ghost use lib.ListN.{length};
 ghost use lib.Ieee.{binary32};
-ghost use Rattle.multicubic.specs.declared.EdgeMode.{EdgeMode};
 ghost use Rattle.grid.specs.Query.{at, valueAnswer};
-ghost use Rattle.slices.specs.Slices.{modeOf, lower};
+ghost use Rattle.slices.specs.Slices.{lower};
 ghost use Rattle.slices.specs.Lent.{lent};
 ghost use Rattle.slices.specs.Internal.{PlacesOn, GradientOn, InterpOn, InterpGradOn};
 ghost use Rattle.rectilinear_query.specs.Grid.{checksOf, gridOf};
 ghost use Rattle.multicubic_f32.specs.Same.{asAnswer};
+use multicubic::EdgeMode;
 use multicubic::Outcome;
 use multicubic::PlaceAnswer;
 use multicubic::nowhere;
@@ -18,7 +18,6 @@ use multicubic_f32::AnswerF32;
 use multicubic_f32::GradientAnswerF32;
 use multicubic_f32::answered;
 use slices::lower;
-use slices::mode_of;
 
 // The refusal of the slices, or the grid's own.
 pub fn new(
@@ -40,16 +39,17 @@ pub fn get_loc(
     counts: [usize; 4],
     axes: &[f32],
     vals: &[f32],
+    mode: EdgeMode,
     x: [f32; 4],
 ) -> PlaceAnswer
-    ensures { λ r. ⌜ ((mode : EdgeMode) → PlacesOn (lent slices (gridOf binary32 «axis_count» counts (now (axes .entry)) (now (vals .entry)) mode)) x (r .outcome) (r .places)) ⌝ }
+    ensures { λ r. ⌜ PlacesOn (lent slices (gridOf binary32 «axis_count» counts (now (axes .entry)) (now (vals .entry)) mode)) x (r .outcome) (r .places) ⌝ }
 {
     match slices {
         Outcome::Refused { .. } => PlaceAnswer {
             outcome: new(slices, axis_count, counts, axes, vals),
             places: nowhere(),
         },
-        Outcome::Accepted => rectilinear_f32::get_loc(axis_count, counts, axes, vals, x),
+        Outcome::Accepted => rectilinear_f32::get_loc(axis_count, counts, axes, vals, mode, x),
     }
 }
 
@@ -60,16 +60,14 @@ pub fn interp_one(
     counts: [usize; 4],
     axes: &[f32],
     vals: &[f32],
-    straight: bool,
+    mode: EdgeMode,
     x: [f32; 4],
 ) -> AnswerF32
-    ensures { λ r. ⌜ asAnswer r ≡ valueAnswer binary32 (lent slices (gridOf binary32 «axis_count» counts (now (axes .entry)) (now (vals .entry)) (modeOf straight))) (at x) ⌝ }
+    ensures { λ r. ⌜ asAnswer r ≡ valueAnswer binary32 (lent slices (gridOf binary32 «axis_count» counts (now (axes .entry)) (now (vals .entry)) mode)) (at x) ⌝ }
 {
     match slices {
         Outcome::Refused { .. } => answered(new(slices, axis_count, counts, axes, vals), 0.0),
-        Outcome::Accepted => {
-            rectilinear_f32::interp_one(axis_count, counts, axes, vals, mode_of(straight), x)
-        }
+        Outcome::Accepted => rectilinear_f32::interp_one(axis_count, counts, axes, vals, mode, x),
     }
 }
 
@@ -80,19 +78,24 @@ pub fn interp_one_grad(
     counts: [usize; 4],
     axes: &[f32],
     vals: &[f32],
-    straight: bool,
+    mode: EdgeMode,
     x: [f32; 4],
 ) -> GradientAnswerF32
-    ensures { λ r. ⌜ GradientOn binary32 (lent slices (gridOf binary32 «axis_count» counts (now (axes .entry)) (now (vals .entry)) (modeOf straight))) x (r .outcome) (r .gradient) ⌝ }
+    ensures { λ r. ⌜ GradientOn binary32 (lent slices (gridOf binary32 «axis_count» counts (now (axes .entry)) (now (vals .entry)) mode)) x (r .outcome) (r .gradient) ⌝ }
 {
     match slices {
         Outcome::Refused { .. } => GradientAnswerF32 {
             outcome: new(slices, axis_count, counts, axes, vals),
             gradient: [0.0, 0.0, 0.0, 0.0],
         },
-        Outcome::Accepted => {
-            rectilinear_f32::interp_one_grad(axis_count, counts, axes, vals, mode_of(straight), x)
-        }
+        Outcome::Accepted => rectilinear_f32::interp_one_grad(
+            axis_count,
+            counts,
+            axes,
+            vals,
+            mode,
+            x,
+        ),
     }
 }
 
@@ -103,27 +106,19 @@ pub fn interp(
     counts: [usize; 4],
     axes: &[f32],
     vals: &[f32],
-    straight: bool,
+    mode: EdgeMode,
     queries: &[f32],
     out: &mut [f32],
 ) -> Outcome
     ensures { λ r. ⌜
-        InterpOn binary32 (lent slices (gridOf binary32 «axis_count» counts (now (axes .entry)) (now (vals .entry)) (modeOf straight)))
+        InterpOn binary32 (lent slices (gridOf binary32 «axis_count» counts (now (axes .entry)) (now (vals .entry)) mode))
         (now (queries .entry)) (now (out .entry)) r (now (out .exit))
         ⌝ }
 {
     match slices {
         Outcome::Refused { .. } => new(slices, axis_count, counts, axes, vals),
         Outcome::Accepted => {
-            rectilinear_batch_f32::interp(
-                axis_count,
-                counts,
-                axes,
-                vals,
-                mode_of(straight),
-                queries,
-                out,
-            )
+            rectilinear_batch_f32::interp(axis_count, counts, axes, vals, mode, queries, out)
         }
     }
 }
@@ -135,27 +130,19 @@ pub fn interp_grad(
     counts: [usize; 4],
     axes: &[f32],
     vals: &[f32],
-    straight: bool,
+    mode: EdgeMode,
     queries: &[f32],
     out: &mut [f32],
 ) -> Outcome
     ensures { λ r. ⌜
-        InterpGradOn binary32 (lent slices (gridOf binary32 «axis_count» counts (now (axes .entry)) (now (vals .entry)) (modeOf straight)))
+        InterpGradOn binary32 (lent slices (gridOf binary32 «axis_count» counts (now (axes .entry)) (now (vals .entry)) mode))
         (now (queries .entry)) (now (out .entry)) r (now (out .exit))
         ⌝ }
 {
     match slices {
         Outcome::Refused { .. } => new(slices, axis_count, counts, axes, vals),
         Outcome::Accepted => {
-            rectilinear_batch_f32::interp_grad(
-                axis_count,
-                counts,
-                axes,
-                vals,
-                mode_of(straight),
-                queries,
-                out,
-            )
+            rectilinear_batch_f32::interp_grad(axis_count, counts, axes, vals, mode, queries, out)
         }
     }
 }

@@ -10,6 +10,7 @@ use lib.ListN.{length, getD, take, drop, length-map, length-take, length-drop, L
 use lib.Seq.{length-take-le, drop-drop}
 use lib.Ieee.{Float, Format}
 use Rattle.multicubic.specs.declared.AxesLength.the-variants.{Joined}
+use Rattle.multicubic.specs.declared.EdgeMode.{EdgeMode}
 use Rattle.multicubic.specs.declared.Loc.the-variants.{At}
 use Rattle.multicubic.specs.declared.Outcome.the-variants.{Accepted}
 use Rattle.multicubic.specs.declared.Place.{Place}
@@ -24,7 +25,8 @@ use Rattle.grid.specs.Nodes.{All}
 use Rattle.grid.proofs.Premises.{Long}
 use Rattle.grid.proofs.Sizes.{all-long, each-long}
 use Rattle.grid.proofs.Fit.{Roomy, roomy-place, Fit, fits-by}
-use Rattle.rectilinear_query.specs.Grid.{checksOf, gridAxis, gridAxes, axesIn}
+use Rattle.grid.proofs.Edges.{edge-roomy}
+use Rattle.rectilinear_query.specs.Grid.{checksOf, gridAxis, axisIn, gridAxes, axesIn}
 use Rattle.rectilinear_query.specs.Internal.{Taken, Ready}
 use Rattle.rectilinear_query.proofs.Sizes.{part-length, rest-length, grid-counts, passed, joined-length}
 
@@ -59,15 +61,16 @@ parts-length : (cs : List ℕ) (joined : List Float) → length (axesOf cs joine
 parts-length [] joined = refl
 parts-length (c ∷ cs) joined = ap suc (parts-length cs (drop c joined))
 
-pub axes-long : (f : Format) (straight : Bool) (n : ℕ) (counts : List ℕ) (joined : List Float) → n ≤ length counts → length (gridAxes f straight (axesOf (take n counts) joined)) ≡ n
-axes-long f straight n counts joined h = length-map (axesOf (take n counts) joined) (gridAxis f straight) ∙ parts-length (take n counts) joined ∙ length-take-le n counts h
+pub axes-long : (f : Format) (mode : EdgeMode) (n : ℕ) (counts : List ℕ) (joined : List Float) → n ≤ length counts → length (gridAxes f mode (axesOf (take n counts) joined)) ≡ n
+axes-long f mode n counts joined h = length-map (axesOf (take n counts) joined) (axisIn f mode) ∙ parts-length (take n counts) joined ∙ length-take-le n counts h
 
 roomy-axis : (f : Format) (straight : Bool) (entries : List Float) → 4 ≤ length entries → Roomy (gridAxis f straight entries)
 roomy-axis f straight entries h x p e = roomy-place (length entries) (pos (countBelow x entries) -ℤ pos 2) p h e
 
-roomy-axes : (f : Format) (straight : Bool) (cs : List ℕ) (joined : List Float) → length joined ≡ sum cs → Long cs → All Roomy (gridAxes f straight (axesOf cs joined))
-roomy-axes f straight [] joined e h = tt
-roomy-axes f straight (c ∷ cs) joined e h = (roomy-axis f straight (take c joined) (rw (part-length c cs joined e) (h .0)), roomy-axes f straight cs (drop c joined) (rest-length c cs joined e) (h .1))
+roomy-axes : (f : Format) (mode : EdgeMode) (cs : List ℕ) (joined : List Float) → length joined ≡ sum cs → Long cs → All Roomy (gridAxes f mode (axesOf cs joined))
+roomy-axes f mode [] joined e h = tt
+roomy-axes f mode (c ∷ cs) joined e h =
+    (edge-roomy mode (λ straight. gridAxis f straight (take c joined)) (λ straight. roomy-axis f straight (take c joined) (rw (part-length c cs joined e) (h .0))), roomy-axes f mode cs (drop c joined) (rest-length c cs joined e) (h .1))
 
 -- what `strides` asks, and what it then tells
 module _ (n : ℕ) (counts : List ℕ) (joined : List Float) (values : ℕ) (checked : checksOf n counts joined values ≡ Accepted) where
@@ -81,22 +84,22 @@ abbrev pub taken-of : {n : ℕ} {counts : List ℕ} {joined : List Float} {value
 taken-of {values = values} ready = record { values = values; checked = ready .checked }
 
 -- a grid that is taken
-module _ (f : Format) (straight : Bool) {n : ℕ} {counts : List ℕ} {joined : List Float} (four : length counts ≡ 4) (taken : Taken n counts joined) where
+module _ (f : Format) (mode : EdgeMode) {n : ℕ} {counts : List ℕ} {joined : List Float} (four : length counts ≡ 4) (taken : Taken n counts joined) where
   sizes : Passed n counts (taken .values) (Joined (length joined))
   sizes = passed n counts joined (taken .values) (taken .checked)
 
   total : length joined ≡ sum (take n counts)
   total = joined-length n counts joined (taken .values) (taken .checked)
 
-  counts-are : gridCounts (axesIn f straight n counts joined) ≡ take n counts
-  counts-are = grid-counts f straight (take n counts) joined total
+  counts-are : gridCounts (axesIn f mode n counts joined) ≡ take n counts
+  counts-are = grid-counts f mode (take n counts) joined total
 
-  pub fit : Fit n (axesIn f straight n counts joined) (taken .values)
+  pub fit : Fit n (axesIn f mode n counts joined) (taken .values)
   fit =
       let few = sizes .few in
-      fits-by (axesIn f straight n counts joined) sizes (axes-long f straight n counts joined (omega arith)) counts-are (roomy-axes f straight (take n counts) joined total (all-long (take n counts) (sizes .long)))
+      fits-by (axesIn f mode n counts joined) sizes (axes-long f mode n counts joined (omega arith)) counts-are (roomy-axes f mode (take n counts) joined total (all-long (take n counts) (sizes .long)))
 
-  pub spaced-by : (strides : List ℕ) → take n strides ≡ stridesOf (take n counts) → take n strides ≡ stridesOf (gridCounts (axesIn f straight n counts joined))
+  pub spaced-by : (strides : List ℕ) → take n strides ≡ stridesOf (take n counts) → take n strides ≡ stridesOf (gridCounts (axesIn f mode n counts joined))
   spaced-by strides e = e ∙ ap stridesOf (sym counts-are)
 
   -- axis j, as the code takes it from its start
@@ -117,8 +120,8 @@ module _ (f : Format) (straight : Bool) {n : ℕ} {counts : List ℕ} {joined : 
     pub long-at : 4 ≤ length part
     long-at = let long = each-long n counts (taken .values) (Joined (length joined)) sizes four j h in simp (length-take, length-drop) (omega (arith, ends-within))
 
-    pub axis-is : gridAxis f straight part ≡ getD (axesIn f straight n counts joined) j noGridAxis
-    axis-is = sym (part-is (gridAxis f straight) noGridAxis)
+    pub axis-is : axisIn f mode part ≡ getD (axesIn f mode n counts joined) j noGridAxis
+    axis-is = sym (part-is (axisIn f mode) noGridAxis)
 
     -- check 6 has passed it
     pub sound-at : disorder part ≡ false
@@ -131,5 +134,5 @@ module _ (f : Format) (straight : Bool) {n : ℕ} {counts : List ℕ} {joined : 
         sym (part-is disorder (disorder [])) ∙ List·getD-map disorder parts j [] ∙ lowest-accepted 6 disorder 0 parts [] sound j (omega arith)
 
     -- a place's block lies on it
-    pub room-on : (x : Float) (p : Place) → At p ≡ gridAxis f straight part .loc x → p .origin + 4 ≤ length part
-    room-on x p e = roomy-axis f straight part long-at x p (sym e)
+    pub room-on : (straight : Bool) (x : Float) (p : Place) → At p ≡ gridAxis f straight part .loc x → p .origin + 4 ≤ length part
+    room-on straight x p e = roomy-axis f straight part long-at x p (sym e)

@@ -1,6 +1,5 @@
 -- What checks 1 to 4 leave of a rectilinear grid that is accepted.
 use mathlib.Core.Path.{_≡_, refl, sym}
-use mathlib.Core.Bool.{Bool}
 use mathlib.Core.List.{List, [], _∷_}
 use Prim.Native.Nat.{ℕ, _+_, _≤_, _<_}
 use native.Mathlib.Omega.{arith}
@@ -12,13 +11,13 @@ use Rattle.multicubic.specs.declared.AxesLength.the-variants.{Joined}
 use Rattle.multicubic.specs.declared.EdgeMode.{EdgeMode}
 use Rattle.multicubic.specs.declared.Outcome.the-variants.{Accepted}
 use Rattle.multicubic.specs.Grid.{sum, sizeChecks}
-use Rattle.multicubic.specs.Place.{straightOf}
 use Rattle.multicubic.proofs.Passed.{then-accepted, Passed, accepted}
 use Rattle.rectilinear_order.specs.Grid.{axesOf}
 use Rattle.grid.specs.Query.{countsOf}
 use Rattle.grid.proofs.Premises.{Sized}
+use Rattle.grid.proofs.Edges.{edge-count}
 use Rattle.grid.proofs.Sizes.{sized-by, each-long}
-use Rattle.rectilinear_query.specs.Grid.{checksOf, gridAxes, gridOf}
+use Rattle.rectilinear_query.specs.Grid.{checksOf, gridAxis, gridAxes, gridOf}
 
 -- the first part has its count, and the rest are joined in what is left
 module _ (c : ℕ) (cs : List ℕ) (joined : List Float) (e : length joined ≡ c + sum cs) where
@@ -28,9 +27,10 @@ module _ (c : ℕ) (cs : List ℕ) (joined : List Float) (e : length joined ≡ 
   pub rest-length : length (drop c joined) ≡ sum cs
   rest-length = simp length-drop (omega arith)
 
-pub grid-counts : (f : Format) (straight : Bool) (cs : List ℕ) (joined : List Float) → length joined ≡ sum cs → countsOf (gridAxes f straight (axesOf cs joined)) ≡ cs
-grid-counts f straight [] joined e = refl
-grid-counts f straight (c ∷ cs) joined e = rw (part-length c cs joined e, grid-counts f straight cs (drop c joined) (rest-length c cs joined e))
+pub grid-counts : (f : Format) (mode : EdgeMode) (cs : List ℕ) (joined : List Float) → length joined ≡ sum cs → countsOf (gridAxes f mode (axesOf cs joined)) ≡ cs
+grid-counts f mode [] joined e = refl
+grid-counts f mode (c ∷ cs) joined e =
+    λ k. edge-count mode (λ straight. gridAxis f straight (take c joined)) c (λ straight. part-length c cs joined e) k ∷ grid-counts f mode cs (drop c joined) (rest-length c cs joined e) k
 
 module _ (n : ℕ) (counts : List ℕ) (joined : List Float) (values : ℕ) (taken : checksOf n counts joined values ≡ Accepted) where
   pub passed : Passed n counts values (Joined (length joined))
@@ -42,7 +42,7 @@ module _ (n : ℕ) (counts : List ℕ) (joined : List Float) (values : ℕ) (tak
 pub sized : (f : Format) (n : ℕ) (counts : List ℕ) (joined vals : List Float) (mode : EdgeMode) → gridOf f n counts joined vals mode .checked ≡ Accepted → Sized (gridOf f n counts joined vals mode)
 sized f n counts joined vals mode e =
     sized-by (gridOf f n counts joined vals mode) (passed n counts joined (length vals) e)
-    (grid-counts f (straightOf mode) (take n counts) joined (joined-length n counts joined (length vals) e))
+    (grid-counts f mode (take n counts) joined (joined-length n counts joined (length vals) e))
 
 -- what `check_order` asks, once checks 1 to 4 have passed
 pub orderable : (n : ℕ) (counts : List ℕ) (joined : List Float) (values : ℕ) → length counts ≡ 4 → sizeChecks n counts values (Joined (length joined)) ≡ Accepted → (n ≤ 4) × (sum (take n counts) ≡ length joined) × ((i : ℕ) → i < n → 4 ≤ getD counts i 0)

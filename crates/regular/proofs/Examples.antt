@@ -9,11 +9,12 @@ use lib.Ieee.{Float, nan, fin, Format, binary32, binary64, add, mul, ofInt, lt, 
 use lib.Ieee.Scale.{finite}
 use Rattle.multicubic.specs.declared.Axis.{Axis}
 use Rattle.multicubic.specs.declared.EdgeMode.{EdgeMode}
+use Rattle.multicubic.specs.declared.EdgeMode.the-variants.{Cubic, Straight, Held}
 use Rattle.multicubic.specs.declared.Outcome.the-variants.{Accepted}
 use Rattle.multicubic.specs.declared.Answer.the-variants.{Value}
 use Rattle.multicubic.specs.Grid.{sizeChecks}
 use Rattle.grid.specs.Query.{valueAnswer}
-use Rattle.grid.specs.Nodes.{stored}
+use Rattle.grid.specs.Nodes.{AtIndex, stored}
 use Rattle.grid.proofs.Decide.{each, all-fit}
 use Rattle.regular_query.specs.Grid.{gridOf, AllPremises}
 use Rattle.regular.proofs.Guarantees.{node}
@@ -37,7 +38,17 @@ taken : (f : Format) (mode : EdgeMode) → gridOf f 2 axes vals mode .checked �
 unfolding sizeChecks lt
 taken f mode = refl
 
-pub met : (f : Format) (mode : EdgeMode) → (v : Float) × (valueAnswer f (gridOf f 2 axes vals mode) (λ a. getD query a nan) ≡ Value v) × T (eq v (stored (gridOf f 2 axes vals mode) (2 ∷ 3 ∷ [])))
+-- in every setting
+at : (f : Format) (mode : EdgeMode) → AtIndex 0 (gridOf f 2 axes vals mode .axes) (2 ∷ 3 ∷ []) (λ a. getD query a nan)
 unfolding fits eq add mul ofInt
-met binary32 mode = node binary32 2 axes premises (2 ∷ 3 ∷ []) (λ a. getD query a nan) (all-fit binary32 query tt) vals mode (taken binary32 mode) (each finite vals tt) (each (fits binary32) vals tt) (lit< tt, tt, (lit< tt, tt, tt))
-met binary64 mode = node binary64 2 axes premises (2 ∷ 3 ∷ []) (λ a. getD query a nan) (all-fit binary64 query tt) vals mode (taken binary64 mode) (each finite vals tt) (each (fits binary64) vals tt) (lit< tt, tt, (lit< tt, tt, tt))
+at binary32 Cubic = (lit< tt, tt, (lit< tt, tt, tt))
+at binary32 Straight = (lit< tt, tt, (lit< tt, tt, tt))
+at binary32 Held = (lit< tt, tt, (lit< tt, tt, tt))
+at binary64 Cubic = (lit< tt, tt, (lit< tt, tt, tt))
+at binary64 Straight = (lit< tt, tt, (lit< tt, tt, tt))
+at binary64 Held = (lit< tt, tt, (lit< tt, tt, tt))
+
+pub met : (f : Format) (mode : EdgeMode) → (v : Float) × (valueAnswer f (gridOf f 2 axes vals mode) (λ a. getD query a nan) ≡ Value v) × T (eq v (stored (gridOf f 2 axes vals mode) (2 ∷ 3 ∷ [])))
+unfolding fits
+met binary32 mode = node binary32 2 axes premises (2 ∷ 3 ∷ []) (λ a. getD query a nan) (all-fit binary32 query tt) vals mode (taken binary32 mode) (each finite vals tt) (each (fits binary32) vals tt) (at binary32 mode)
+met binary64 mode = node binary64 2 axes premises (2 ∷ 3 ∷ []) (λ a. getD query a nan) (all-fit binary64 query tt) vals mode (taken binary64 mode) (each finite vals tt) (each (fits binary64) vals tt) (at binary64 mode)

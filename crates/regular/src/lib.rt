@@ -1,13 +1,11 @@
 // A regular grid of src/multicubic/regular.rs: `new`, the place, the value and the gradient of a query.
 ghost use mathlib.Core.Path.{_≡_};
-ghost use mathlib.Core.Bool.{Bool};
 ghost use Prim.Native.Nat.{_≤_};
 ghost use lib.ListN.{length, take};
 ghost use lib.Ieee.{binary64};
 ghost use Rattle.multicubic.specs.Grid.{lowest};
 ghost use Rattle.multicubic.specs.Answers.{Says, answerOutcome, valueIn};
 ghost use Rattle.multicubic.specs.Same.{asAnswer};
-ghost use Rattle.multicubic.specs.declared.EdgeMode.{EdgeMode};
 ghost use Rattle.grid.specs.Query.{find, foundOutcome, outcomeOf, at, placeAnswer, valueAnswer, valueCarried, gradientAnswer};
 ghost use Rattle.grid.specs.Internal.{Located, gradientTo};
 ghost use Rattle.regular_query.specs.Grid.{notRising, checksOf, axesIn, gridOf};
@@ -23,13 +21,14 @@ use multicubic::Outcome;
 use multicubic::PlaceAnswer;
 use multicubic::answered;
 use multicubic::check_sizes;
-use multicubic::linearize_extrapolation;
 use multicubic::nowhere;
 use multicubic::outcome_of;
 use multicubic::refused_query;
 use reduction::strides;
+use regular_axis::hold;
 use regular_query::answer_at;
 use regular_query::counts_of;
+use regular_query::replaced_at;
 
 // Check 5: the lowest axis whose step is not above 0.
 fn first_not_rising(axis_count: usize, axes: [Axis; 4]) -> Outcome
@@ -65,14 +64,17 @@ pub fn new(axis_count: usize, axes: [Axis; 4], vals: &[f64]) -> Outcome
 }
 
 // A query's place on every axis, or refusal 8 with its lowest unplaceable axis.
-fn locate(axis_count: usize, axes: [Axis; 4], x: [f64; 4]) -> PlaceAnswer
+fn locate(axis_count: usize, axes: [Axis; 4], mode: EdgeMode, x: [f64; 4]) -> PlaceAnswer
     requires { ⌜ Taken «axis_count» axes ⌝ }
-    ensures { λ r. ⌜ ((straight : Bool) → Located 0 (axesIn binary64 straight «axis_count» axes) (at x) r) ⌝ }
+    ensures { λ r. ⌜ Located 0 (axesIn binary64 mode «axis_count» axes) (at x) r ⌝ }
 {
     let mut places = nowhere();
     let mut i: usize = 0;
     while i < axis_count {
-        let loc = regular_axis::get_loc(axes[i], x[i]);
+        let given = x[i];
+        let replaced = replaced_at(axes[i], given, mode);
+        let used = hold(axes[i], given, replaced);
+        let loc = regular_axis::get_loc(axes[i], used);
         let Loc::At(place) = loc else {
             return PlaceAnswer {
                 outcome: refused_query(0, i),
@@ -89,14 +91,16 @@ fn locate(axis_count: usize, axes: [Axis; 4], x: [f64; 4]) -> PlaceAnswer
 }
 
 // The place of a query on a grid: the grid's checks, then origin and class on every axis, or 8.
-pub fn get_loc(axis_count: usize, axes: [Axis; 4], vals: &[f64], x: [f64; 4]) -> PlaceAnswer
-    ensures { λ r. ⌜
-        ((mode : EdgeMode) → r .outcome ≡ outcomeOf (gridOf binary64 «axis_count» axes (now (vals .entry)) mode) (at x))
-        ⌝ }
-    ensures { λ r. ⌜
-        ((mode : EdgeMode) → r .places ≡ placeAnswer (gridOf binary64 «axis_count» axes (now (vals .entry)) mode) (at x))
-        ⌝ }
-    ensures { λ r. ⌜ ((mode : EdgeMode) → Says (r .outcome) (outcomeOf (gridOf binary64 «axis_count» axes (now (vals .entry)) mode) (at x))) ⌝ }
+pub fn get_loc(
+    axis_count: usize,
+    axes: [Axis; 4],
+    vals: &[f64],
+    mode: EdgeMode,
+    x: [f64; 4],
+) -> PlaceAnswer
+    ensures { λ r. ⌜ r .outcome ≡ outcomeOf (gridOf binary64 «axis_count» axes (now (vals .entry)) mode) (at x) ⌝ }
+    ensures { λ r. ⌜ r .places ≡ placeAnswer (gridOf binary64 «axis_count» axes (now (vals .entry)) mode) (at x) ⌝ }
+    ensures { λ r. ⌜ Says (r .outcome) (outcomeOf (gridOf binary64 «axis_count» axes (now (vals .entry)) mode) (at x)) ⌝ }
 {
     let checked = new(axis_count, axes, vals);
     match checked {
@@ -104,7 +108,7 @@ pub fn get_loc(axis_count: usize, axes: [Axis; 4], vals: &[f64], x: [f64; 4]) ->
             outcome: checked,
             places: nowhere(),
         },
-        Outcome::Accepted => locate(axis_count, axes, x),
+        Outcome::Accepted => locate(axis_count, axes, mode, x),
     }
 }
 
@@ -127,7 +131,7 @@ pub fn interp_one(
             axis_count,
             axes,
             vals,
-            linearize_extrapolation(mode),
+            mode,
             strides(axis_count, counts_of(axes)),
             &x,
             1,
@@ -142,15 +146,15 @@ fn gradient_at(
     axis_count: usize,
     axes: [Axis; 4],
     vals: &[f64],
-    linearize_extrapolation: bool,
+    mode: EdgeMode,
     strides: [usize; 4],
     x: [f64; 4],
 ) -> GradientAnswer
     requires { ⌜ Ready «axis_count» axes (length (now vals)) strides ⌝ }
-    ensures { λ r. ⌜ r .outcome ≡ foundOutcome 0 (find 0 (axesIn binary64 «linearize_extrapolation» «axis_count» axes) (at x)) ⌝ }
+    ensures { λ r. ⌜ r .outcome ≡ foundOutcome 0 (find 0 (axesIn binary64 mode «axis_count» axes) (at x)) ⌝ }
     ensures { λ r. ⌜
-        r .gradient ≡ gradientTo binary64 (axesIn binary64 «linearize_extrapolation» «axis_count» axes) (now (vals .entry))
-        (find 0 (axesIn binary64 «linearize_extrapolation» «axis_count» axes) (at x))
+        r .gradient ≡ gradientTo binary64 (axesIn binary64 mode «axis_count» axes) (now (vals .entry))
+        (find 0 (axesIn binary64 mode «axis_count» axes) (at x))
         ⌝ }
 {
     let mut gradient = [0.0; 4];
@@ -160,7 +164,7 @@ fn gradient_at(
             axis_count,
             axes,
             vals,
-            linearize_extrapolation,
+            mode,
             strides,
             &x,
             1,
@@ -208,7 +212,7 @@ pub fn interp_one_grad(
             axis_count,
             axes,
             vals,
-            linearize_extrapolation(mode),
+            mode,
             strides(axis_count, counts_of(axes)),
             x,
         ),

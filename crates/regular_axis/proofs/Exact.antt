@@ -1,15 +1,17 @@
 -- Under the premises the quotient and t are exact at the nodes: whole numbers of steps.
 use mathlib.Core.Path.{_≡_, refl, sym, ap, _∙_, subst}
-use mathlib.Core.Bool.{Bool, true, false, cond}
+use mathlib.Core.Bool.{Bool, true, false, not, cond}
 use Prim.Native.Nat.{ℕ, zero, suc, _+_, _-_, _^_, _≤_, _<_}
 use native.Mathlib.Nat.{add-zero}
 use native.Mathlib.Omega.{arith}
 use lib.IntN.{ℤ, pos, negsuc, negℤ, natAbs, subℕ, _+ℤ_, _-ℤ_, +ℤ-comm, +ℤ-assoc, +ℤ-invr, +ℤ-idr, +ℤ-idl, negℤ-+ℤ}
-use lib.Dec.{T, ltb, ltb→lt}
-use lib.Ieee.{Float, nan, inf, fin, Format, sub, mul, div, ofInt}
+use lib.Signed.{ltZ}
+use lib.Dec.{T, ltb, ltb→lt, nltb→le}
+use lib.Ieee.{Float, nan, inf, fin, Format, sub, mul, div, lt, ofInt}
 use lib.Ieee.Scale.{finite}
+use borrow.Author.Tests.{le-ltb}
 use Rattle.ieee.proofs.ZeroOne.{Same}
-use Rattle.ieee.proofs.Multiple.{Is, Small, signed, size-is, add-mult, sub-mult, mul-step, div-step, of-int, is-same}
+use Rattle.ieee.proofs.Multiple.{Is, Small, signed, size-is, add-mult, sub-mult, mul-step, div-step, of-int, is-same, lt-mult}
 use Rattle.regular_axis.specs.Place.{quotient}
 use Rattle.regular_axis.specs.Weights.{node, tOf}
 use Rattle.regular_axis.specs.Nodes.{Premises}
@@ -40,6 +42,21 @@ cancel a b c =
     ∙ +ℤ-assoc b a (negℤ a +ℤ negℤ c)
     ∙ ap (λ (z : ℤ). b +ℤ z) (sym (+ℤ-assoc a (negℤ a) (negℤ c)) ∙ ap (λ (z : ℤ). z +ℤ negℤ c) (+ℤ-invr a) ∙ +ℤ-idl (negℤ c))
 
+-- where i ≤ j, j - a is not below i - a
+rise-subℕ : (i j a : ℕ) → i ≤ j → ltZ (subℕ j a) (subℕ i a) ≡ false
+rise-subℕ i j a h = go (ltb j a) (ltb i a) (ltb→lt j a) (nltb→le i a)
+  where
+    go : (x y : Bool) → (T x → j < a) → (T (not y) → a ≤ i) → ltZ (cond x (negsuc (a - suc j)) (pos (j - a))) (cond y (negsuc (a - suc i)) (pos (i - a))) ≡ false
+    go true true l m = le-ltb (a - suc i) (a - suc j) (omega arith)
+    go true false l m = absurd (omega (arith, l tt, m tt))
+    go false true l m = refl
+    go false false l m = le-ltb (j - a) (i - a) (omega arith)
+
+-- nor a + j below a + i
+rise : (a : ℤ) (i j : ℕ) → i ≤ j → ltZ (a +ℤ pos j) (a +ℤ pos i) ≡ false
+rise (pos a) i j h = le-ltb (a + j) (a + i) (omega arith)
+rise (negsuc a) i j h = rise-subℕ i j (suc a) h
+
 -- ---- nodes
 pub is-finite : (p z : ℤ) (x : Float) → Is p z x → T (finite x)
 is-finite p z nan h = absurd (h .is)
@@ -68,6 +85,12 @@ module _ (f : Format) (start step : Float) (P : Premises start step) where
       subst (λ (s : Float). Is p (k +ℤ pos i) (node f start s i)) (sym (P .step-is))
       (add-mult f p k (pos i) start (mul f (fin false 1 p) (ofInt f (pos i))) small (omega (arith, near)) start-is
       (mul-step f p (pos i) (ofInt f (pos i)) small (omega arith) (of-int f i (omega arith))))
+
+  pub node-finite : (i : ℕ) → i ≤ 4096 → T (finite (node f start step i))
+  node-finite i h = is-finite p (k +ℤ pos i) (node f start step i) (node-is i h)
+
+  pub nodes-rise : (i j : ℕ) → i ≤ j → j ≤ 4096 → lt (node f start step j) (node f start step i) ≡ false
+  nodes-rise i j l h = lt-mult p (k +ℤ pos j) (k +ℤ pos i) (node f start step j) (node f start step i) (node-is j h) (node-is i (omega arith)) ∙ rise k i j l
 
   -- of two values that are i and o steps from the start
   between : (i o : ℕ) (x y : Float) → i ≤ 4096 → o ≤ 4096 → Is p (k +ℤ pos i) x → Is p (k +ℤ pos o) y → Is (pos 0) (pos i -ℤ pos o) (div f (sub f x y) step)

@@ -1,7 +1,8 @@
 // One axis of src/multicubic/regular.rs: the place of a query, and the weights of its block.
 ghost use mathlib.Core.Path.{_≡_};
-ghost use Prim.Native.Nat.{suc, _≤_, _<_};
-ghost use lib.Ieee.{binary64};
+ghost use mathlib.Core.Bool.{cond};
+ghost use Prim.Native.Nat.{_-_, _≤_, _<_};
+ghost use lib.Ieee.{binary64, lt};
 ghost use Rattle.multicubic.specs.Answers.{numberOf, placeOutcome, placeIn};
 ghost use Rattle.regular_axis.specs.Place.{locOf, locNumber, locPlace};
 ghost use Rattle.regular_axis.specs.Weights.{node, tOf, interior, cubicEnd, atLow, atHigh, endOf, endSlopeOf};
@@ -11,6 +12,7 @@ use interp_math::hermite_basis_derivative;
 use interp_math::scale_weights;
 use multicubic::Axis;
 use multicubic::Loc;
+use multicubic::Marks;
 use multicubic::Place;
 use multicubic::Saturation;
 use multicubic::place_from;
@@ -37,12 +39,55 @@ pub fn get_loc(axis: Axis, v: f64) -> Loc
     Loc::Unplaceable
 }
 
-// The block's point 1.
-fn index_one_loc(axis: Axis, origin: usize) -> f64
-    requires { ⌜ origin < 4096 ⌝ }
-    ensures { λ r. ⌜ r ≡ node binary64 (axis .start) (axis .step) (suc origin) ⌝ }
+// Node i.
+fn node(axis: Axis, i: usize) -> f64
+    requires { ⌜ i < 65536 ⌝ }
+    ensures { λ r. ⌜ r ≡ node binary64 (axis .start) (axis .step) i ⌝ }
 {
-    axis.start + axis.step * (((origin + 1) as u32) as f64)
+    axis.start + axis.step * ((i as u32) as f64)
+}
+
+// The axis's ends.
+fn first_node(axis: Axis) -> f64
+    ensures { λ r. ⌜ r ≡ node binary64 (axis .start) (axis .step) 0 ⌝ }
+{
+    node(axis, 0)
+}
+
+fn last_node(axis: Axis) -> f64
+    requires { ⌜ (4 ≤ axis .count) × (axis .count ≤ 4096) ⌝ }
+    ensures { λ r. ⌜ r ≡ node binary64 (axis .start) (axis .step) (axis .count - 1) ⌝ }
+{
+    node(axis, axis.count - 1)
+}
+
+// Past which ends of the axis v lies.
+pub fn marks_at(axis: Axis, v: f64) -> Marks
+    requires { ⌜ (4 ≤ axis .count) × (axis .count ≤ 4096) ⌝ }
+    ensures { λ r. ⌜ r .below ≡ lt v (node binary64 (axis .start) (axis .step) 0) ⌝ }
+    ensures { λ r. ⌜ r .above ≡ lt (node binary64 (axis .start) (axis .step) (axis .count - 1)) v ⌝ }
+{
+    Marks {
+        below: v < first_node(axis),
+        above: last_node(axis) < v,
+    }
+}
+
+// v, or the node of the end that it is past.
+pub fn hold(axis: Axis, v: f64, marks: Marks) -> f64
+    requires { ⌜ (4 ≤ axis .count) × (axis .count ≤ 4096) ⌝ }
+    ensures { λ r. ⌜
+        r ≡ cond (marks .below) (node binary64 (axis .start) (axis .step) 0)
+        (cond (marks .above) (node binary64 (axis .start) (axis .step) (axis .count - 1)) v)
+        ⌝ }
+{
+    if marks.below {
+        return first_node(axis);
+    }
+    if marks.above {
+        return last_node(axis);
+    }
+    v
 }
 
 // v relative to the block's point 1, in steps.
@@ -50,7 +95,7 @@ fn local_t(axis: Axis, origin: usize, v: f64) -> f64
     requires { ⌜ origin < 4096 ⌝ }
     ensures { λ r. ⌜ r ≡ tOf binary64 (axis .start) (axis .step) origin v ⌝ }
 {
-    (v - index_one_loc(axis, origin)) / axis.step
+    (v - node(axis, origin + 1)) / axis.step
 }
 
 // A class's row from the basis of t, or from its derivative.

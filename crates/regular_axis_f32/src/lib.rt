@@ -1,8 +1,9 @@
 // f32: written by tools/width from crates/regular_axis/src/lib.rt; what has no float is called there.
 // One axis of src/multicubic/regular.rs: the place of a query, and the weights of its block.
 ghost use mathlib.Core.Path.{_≡_};
-ghost use Prim.Native.Nat.{suc, _≤_, _<_};
-ghost use lib.Ieee.{binary32};
+ghost use mathlib.Core.Bool.{cond};
+ghost use Prim.Native.Nat.{_-_, _≤_, _<_};
+ghost use lib.Ieee.{binary32, lt};
 ghost use Rattle.multicubic.specs.Answers.{numberOf, placeOutcome, placeIn};
 ghost use Rattle.regular_axis.specs.Place.{locOf, locNumber, locPlace};
 ghost use Rattle.regular_axis.specs.Weights.{node, tOf, interior, cubicEnd, atLow, atHigh, endOf, endSlopeOf};
@@ -11,6 +12,7 @@ use interp_math_f32::hermite_basis;
 use interp_math_f32::hermite_basis_derivative;
 use interp_math_f32::scale_weights;
 use multicubic::Loc;
+use multicubic::Marks;
 use multicubic::Place;
 use multicubic::Saturation;
 use multicubic::place_from;
@@ -38,12 +40,55 @@ pub fn get_loc(axis: AxisF32, v: f32) -> Loc
     Loc::Unplaceable
 }
 
-// The block's point 1.
-fn index_one_loc(axis: AxisF32, origin: usize) -> f32
-    requires { ⌜ origin < 4096 ⌝ }
-    ensures { λ r. ⌜ r ≡ node binary32 (axis .start) (axis .step) (suc origin) ⌝ }
+// Node i.
+fn node(axis: AxisF32, i: usize) -> f32
+    requires { ⌜ i < 65536 ⌝ }
+    ensures { λ r. ⌜ r ≡ node binary32 (axis .start) (axis .step) i ⌝ }
 {
-    axis.start + axis.step * (((origin + 1) as u16) as f32)
+    axis.start + axis.step * ((i as u16) as f32)
+}
+
+// The axis's ends.
+fn first_node(axis: AxisF32) -> f32
+    ensures { λ r. ⌜ r ≡ node binary32 (axis .start) (axis .step) 0 ⌝ }
+{
+    node(axis, 0)
+}
+
+fn last_node(axis: AxisF32) -> f32
+    requires { ⌜ (4 ≤ axis .count) × (axis .count ≤ 4096) ⌝ }
+    ensures { λ r. ⌜ r ≡ node binary32 (axis .start) (axis .step) (axis .count - 1) ⌝ }
+{
+    node(axis, axis.count - 1)
+}
+
+// Past which ends of the axis v lies.
+pub fn marks_at(axis: AxisF32, v: f32) -> Marks
+    requires { ⌜ (4 ≤ axis .count) × (axis .count ≤ 4096) ⌝ }
+    ensures { λ r. ⌜ r .below ≡ lt v (node binary32 (axis .start) (axis .step) 0) ⌝ }
+    ensures { λ r. ⌜ r .above ≡ lt (node binary32 (axis .start) (axis .step) (axis .count - 1)) v ⌝ }
+{
+    Marks {
+        below: v < first_node(axis),
+        above: last_node(axis) < v,
+    }
+}
+
+// v, or the node of the end that it is past.
+pub fn hold(axis: AxisF32, v: f32, marks: Marks) -> f32
+    requires { ⌜ (4 ≤ axis .count) × (axis .count ≤ 4096) ⌝ }
+    ensures { λ r. ⌜
+        r ≡ cond (marks .below) (node binary32 (axis .start) (axis .step) 0)
+        (cond (marks .above) (node binary32 (axis .start) (axis .step) (axis .count - 1)) v)
+        ⌝ }
+{
+    if marks.below {
+        return first_node(axis);
+    }
+    if marks.above {
+        return last_node(axis);
+    }
+    v
 }
 
 // v relative to the block's point 1, in steps.
@@ -51,7 +96,7 @@ fn local_t(axis: AxisF32, origin: usize, v: f32) -> f32
     requires { ⌜ origin < 4096 ⌝ }
     ensures { λ r. ⌜ r ≡ tOf binary32 (axis .start) (axis .step) origin v ⌝ }
 {
-    (v - index_one_loc(axis, origin)) / axis.step
+    (v - node(axis, origin + 1)) / axis.step
 }
 
 // A class's row from the basis of t, or from its derivative.

@@ -16,7 +16,6 @@ use multicubic::Answer;
 use multicubic::Axis;
 use multicubic::EdgeMode;
 use multicubic::Outcome;
-use multicubic::linearize_extrapolation;
 use multicubic::outcome_of;
 use reduction::strides;
 use regular::new;
@@ -28,7 +27,7 @@ fn fill(
     axis_count: usize,
     axes: [Axis; 4],
     vals: &[f64],
-    linearize_extrapolation: bool,
+    mode: EdgeMode,
     strides: [usize; 4],
     queries: &[f64],
     quantity: Quantity,
@@ -38,13 +37,13 @@ fn fill(
     requires { ⌜ length (now queries) ≡ «axis_count» * length (now out) ⌝ }
     requires { ⌜ Asked «axis_count» quantity ⌝ }
     ensures { λ r. ⌜
-        r ≡ outcomeFrom (foundAt (axesIn binary64 «linearize_extrapolation» «axis_count» axes) (length (now (out .entry))) (now (queries .entry))) 0
+        r ≡ outcomeFrom (foundAt (axesIn binary64 mode «axis_count» axes) (length (now (out .entry))) (now (queries .entry))) 0
         (length (now (out .entry)))
         ⌝ }
     ensures { λ r. ⌜
         now (out .exit) ≡ runFrom
-        (foundAt (axesIn binary64 «linearize_extrapolation» «axis_count» axes) (length (now (out .entry))) (now (queries .entry)))
-        (putQuantity binary64 (gridCounts (axesIn binary64 «linearize_extrapolation» «axis_count» axes)) (now (vals .entry)) quantity) 0
+        (foundAt (axesIn binary64 mode «axis_count» axes) (length (now (out .entry))) (now (queries .entry)))
+        (putQuantity binary64 (gridCounts (axesIn binary64 mode «axis_count» axes)) (now (vals .entry)) quantity) 0
         (length (now (out .entry))) (now (out .entry))
         ⌝ }
 {
@@ -55,7 +54,7 @@ fn fill(
             axis_count,
             axes,
             vals,
-            linearize_extrapolation,
+            mode,
             strides,
             queries,
             count,
@@ -108,7 +107,7 @@ pub fn interp(
             axis_count,
             axes,
             vals,
-            linearize_extrapolation(mode),
+            mode,
             strides(axis_count, counts_of(axes)),
             queries,
             Quantity::Value,
@@ -122,7 +121,7 @@ fn fill_columns(
     axis_count: usize,
     axes: [Axis; 4],
     vals: &[f64],
-    linearize_extrapolation: bool,
+    mode: EdgeMode,
     strides: [usize; 4],
     queries: &[f64],
     count: usize,
@@ -131,14 +130,14 @@ fn fill_columns(
     requires { ⌜ Ready «axis_count» axes (length (now vals)) strides ⌝ }
     requires { ⌜ (length (now queries) ≡ «axis_count» * count) × (length (now out) ≡ «axis_count» * count) ⌝ }
     ensures { λ r. ⌜
-        r ≡ outcomeFrom (foundAt (axesIn binary64 «linearize_extrapolation» «axis_count» axes) count (now (queries .entry))) 0 count
+        r ≡ outcomeFrom (foundAt (axesIn binary64 mode «axis_count» axes) count (now (queries .entry))) 0 count
         ⌝ }
     ensures { λ r. ⌜
         FilledColumns
-        (componentIn binary64 (axesIn binary64 «linearize_extrapolation» «axis_count» axes) (now (vals .entry)) count (now (queries .entry)))
+        (componentIn binary64 (axesIn binary64 mode «axis_count» axes) (now (vals .entry)) count (now (queries .entry)))
         «axis_count» count
         (answeredBefore
-        (outcomeFrom (foundAt (axesIn binary64 «linearize_extrapolation» «axis_count» axes) count (now (queries .entry))) 0 count) count)
+        (outcomeFrom (foundAt (axesIn binary64 mode «axis_count» axes) count (now (queries .entry))) 0 count) count)
         (now (out .entry)) (now (out .exit))
         ⌝ }
 {
@@ -151,7 +150,7 @@ fn fill_columns(
             axis_count,
             axes,
             vals,
-            linearize_extrapolation,
+            mode,
             strides,
             queries,
             Quantity::Component(d),
@@ -194,7 +193,7 @@ pub fn interp_grad(
             axis_count,
             axes,
             vals,
-            linearize_extrapolation(mode),
+            mode,
             strides(axis_count, counts_of(axes)),
             queries,
             out.len() / axis_count,

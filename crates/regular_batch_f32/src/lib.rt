@@ -16,7 +16,6 @@ use grid::check_gradients;
 use grid::check_values;
 use multicubic::EdgeMode;
 use multicubic::Outcome;
-use multicubic::linearize_extrapolation;
 use multicubic_f32::AnswerF32;
 use multicubic_f32::AxisF32;
 use multicubic_f32::outcome_of;
@@ -30,7 +29,7 @@ fn fill(
     axis_count: usize,
     axes: [AxisF32; 4],
     vals: &[f32],
-    linearize_extrapolation: bool,
+    mode: EdgeMode,
     strides: [usize; 4],
     queries: &[f32],
     quantity: Quantity,
@@ -40,13 +39,13 @@ fn fill(
     requires { ⌜ length (now queries) ≡ «axis_count» * length (now out) ⌝ }
     requires { ⌜ Asked «axis_count» quantity ⌝ }
     ensures { λ r. ⌜
-        r ≡ outcomeFrom (foundAt (axesIn binary32 «linearize_extrapolation» «axis_count» (asAxes axes)) (length (now (out .entry))) (now (queries .entry))) 0
+        r ≡ outcomeFrom (foundAt (axesIn binary32 mode «axis_count» (asAxes axes)) (length (now (out .entry))) (now (queries .entry))) 0
         (length (now (out .entry)))
         ⌝ }
     ensures { λ r. ⌜
         now (out .exit) ≡ runFrom
-        (foundAt (axesIn binary32 «linearize_extrapolation» «axis_count» (asAxes axes)) (length (now (out .entry))) (now (queries .entry)))
-        (putQuantity binary32 (gridCounts (axesIn binary32 «linearize_extrapolation» «axis_count» (asAxes axes))) (now (vals .entry)) quantity) 0
+        (foundAt (axesIn binary32 mode «axis_count» (asAxes axes)) (length (now (out .entry))) (now (queries .entry)))
+        (putQuantity binary32 (gridCounts (axesIn binary32 mode «axis_count» (asAxes axes))) (now (vals .entry)) quantity) 0
         (length (now (out .entry))) (now (out .entry))
         ⌝ }
 {
@@ -57,7 +56,7 @@ fn fill(
             axis_count,
             axes,
             vals,
-            linearize_extrapolation,
+            mode,
             strides,
             queries,
             count,
@@ -110,7 +109,7 @@ pub fn interp(
             axis_count,
             axes,
             vals,
-            linearize_extrapolation(mode),
+            mode,
             strides(axis_count, counts_of(axes)),
             queries,
             Quantity::Value,
@@ -124,7 +123,7 @@ fn fill_columns(
     axis_count: usize,
     axes: [AxisF32; 4],
     vals: &[f32],
-    linearize_extrapolation: bool,
+    mode: EdgeMode,
     strides: [usize; 4],
     queries: &[f32],
     count: usize,
@@ -133,14 +132,14 @@ fn fill_columns(
     requires { ⌜ Ready «axis_count» axes (length (now vals)) strides ⌝ }
     requires { ⌜ (length (now queries) ≡ «axis_count» * count) × (length (now out) ≡ «axis_count» * count) ⌝ }
     ensures { λ r. ⌜
-        r ≡ outcomeFrom (foundAt (axesIn binary32 «linearize_extrapolation» «axis_count» (asAxes axes)) count (now (queries .entry))) 0 count
+        r ≡ outcomeFrom (foundAt (axesIn binary32 mode «axis_count» (asAxes axes)) count (now (queries .entry))) 0 count
         ⌝ }
     ensures { λ r. ⌜
         FilledColumns
-        (componentIn binary32 (axesIn binary32 «linearize_extrapolation» «axis_count» (asAxes axes)) (now (vals .entry)) count (now (queries .entry)))
+        (componentIn binary32 (axesIn binary32 mode «axis_count» (asAxes axes)) (now (vals .entry)) count (now (queries .entry)))
         «axis_count» count
         (answeredBefore
-        (outcomeFrom (foundAt (axesIn binary32 «linearize_extrapolation» «axis_count» (asAxes axes)) count (now (queries .entry))) 0 count) count)
+        (outcomeFrom (foundAt (axesIn binary32 mode «axis_count» (asAxes axes)) count (now (queries .entry))) 0 count) count)
         (now (out .entry)) (now (out .exit))
         ⌝ }
 {
@@ -153,7 +152,7 @@ fn fill_columns(
             axis_count,
             axes,
             vals,
-            linearize_extrapolation,
+            mode,
             strides,
             queries,
             Quantity::Component(d),
@@ -196,7 +195,7 @@ pub fn interp_grad(
             axis_count,
             axes,
             vals,
-            linearize_extrapolation(mode),
+            mode,
             strides(axis_count, counts_of(axes)),
             queries,
             out.len() / axis_count,

@@ -1,13 +1,11 @@
 // f32: written by tools/width from crates/regular/src/lib.rt; what has no float is called there.
 // A regular grid of src/multicubic/regular.rs: `new`, the place, the value and the gradient of a query.
 ghost use mathlib.Core.Path.{_≡_};
-ghost use mathlib.Core.Bool.{Bool};
 ghost use Prim.Native.Nat.{_≤_};
 ghost use lib.ListN.{length, take};
 ghost use lib.Ieee.{binary32};
 ghost use Rattle.multicubic.specs.Grid.{lowest};
 ghost use Rattle.multicubic.specs.Answers.{Says, answerOutcome, valueIn};
-ghost use Rattle.multicubic.specs.declared.EdgeMode.{EdgeMode};
 ghost use Rattle.grid.specs.Query.{find, foundOutcome, outcomeOf, at, placeAnswer, valueAnswer, valueCarried, gradientAnswer};
 ghost use Rattle.grid.specs.Internal.{Located, gradientTo};
 ghost use Rattle.regular_query.specs.Grid.{notRising, checksOf, axesIn, gridOf};
@@ -20,7 +18,6 @@ use multicubic::Loc;
 use multicubic::Outcome;
 use multicubic::PlaceAnswer;
 use multicubic::check_sizes;
-use multicubic::linearize_extrapolation;
 use multicubic::nowhere;
 use multicubic::refused_query;
 use multicubic_f32::AnswerF32;
@@ -29,8 +26,10 @@ use multicubic_f32::GradientAnswerF32;
 use multicubic_f32::answered;
 use multicubic_f32::outcome_of;
 use reduction::strides;
+use regular_axis_f32::hold;
 use regular_query_f32::answer_at;
 use regular_query_f32::counts_of;
+use regular_query_f32::replaced_at;
 
 // Check 5: the lowest axis whose step is not above 0.
 fn first_not_rising(axis_count: usize, axes: [AxisF32; 4]) -> Outcome
@@ -66,14 +65,17 @@ pub fn new(axis_count: usize, axes: [AxisF32; 4], vals: &[f32]) -> Outcome
 }
 
 // A query's place on every axis, or refusal 8 with its lowest unplaceable axis.
-fn locate(axis_count: usize, axes: [AxisF32; 4], x: [f32; 4]) -> PlaceAnswer
+fn locate(axis_count: usize, axes: [AxisF32; 4], mode: EdgeMode, x: [f32; 4]) -> PlaceAnswer
     requires { ⌜ Taken «axis_count» axes ⌝ }
-    ensures { λ r. ⌜ ((straight : Bool) → Located 0 (axesIn binary32 straight «axis_count» (asAxes axes)) (at x) r) ⌝ }
+    ensures { λ r. ⌜ Located 0 (axesIn binary32 mode «axis_count» (asAxes axes)) (at x) r ⌝ }
 {
     let mut places = nowhere();
     let mut i: usize = 0;
     while i < axis_count {
-        let loc = regular_axis_f32::get_loc(axes[i], x[i]);
+        let given = x[i];
+        let replaced = replaced_at(axes[i], given, mode);
+        let used = hold(axes[i], given, replaced);
+        let loc = regular_axis_f32::get_loc(axes[i], used);
         let Loc::At(place) = loc else {
             return PlaceAnswer {
                 outcome: refused_query(0, i),
@@ -90,14 +92,16 @@ fn locate(axis_count: usize, axes: [AxisF32; 4], x: [f32; 4]) -> PlaceAnswer
 }
 
 // The place of a query on a grid: the grid's checks, then origin and class on every axis, or 8.
-pub fn get_loc(axis_count: usize, axes: [AxisF32; 4], vals: &[f32], x: [f32; 4]) -> PlaceAnswer
-    ensures { λ r. ⌜
-        ((mode : EdgeMode) → r .outcome ≡ outcomeOf (gridOf binary32 «axis_count» (asAxes axes) (now (vals .entry)) mode) (at x))
-        ⌝ }
-    ensures { λ r. ⌜
-        ((mode : EdgeMode) → r .places ≡ placeAnswer (gridOf binary32 «axis_count» (asAxes axes) (now (vals .entry)) mode) (at x))
-        ⌝ }
-    ensures { λ r. ⌜ ((mode : EdgeMode) → Says (r .outcome) (outcomeOf (gridOf binary32 «axis_count» (asAxes axes) (now (vals .entry)) mode) (at x))) ⌝ }
+pub fn get_loc(
+    axis_count: usize,
+    axes: [AxisF32; 4],
+    vals: &[f32],
+    mode: EdgeMode,
+    x: [f32; 4],
+) -> PlaceAnswer
+    ensures { λ r. ⌜ r .outcome ≡ outcomeOf (gridOf binary32 «axis_count» (asAxes axes) (now (vals .entry)) mode) (at x) ⌝ }
+    ensures { λ r. ⌜ r .places ≡ placeAnswer (gridOf binary32 «axis_count» (asAxes axes) (now (vals .entry)) mode) (at x) ⌝ }
+    ensures { λ r. ⌜ Says (r .outcome) (outcomeOf (gridOf binary32 «axis_count» (asAxes axes) (now (vals .entry)) mode) (at x)) ⌝ }
 {
     let checked = new(axis_count, axes, vals);
     match checked {
@@ -105,7 +109,7 @@ pub fn get_loc(axis_count: usize, axes: [AxisF32; 4], vals: &[f32], x: [f32; 4])
             outcome: checked,
             places: nowhere(),
         },
-        Outcome::Accepted => locate(axis_count, axes, x),
+        Outcome::Accepted => locate(axis_count, axes, mode, x),
     }
 }
 
@@ -128,7 +132,7 @@ pub fn interp_one(
             axis_count,
             axes,
             vals,
-            linearize_extrapolation(mode),
+            mode,
             strides(axis_count, counts_of(axes)),
             &x,
             1,
@@ -143,15 +147,15 @@ fn gradient_at(
     axis_count: usize,
     axes: [AxisF32; 4],
     vals: &[f32],
-    linearize_extrapolation: bool,
+    mode: EdgeMode,
     strides: [usize; 4],
     x: [f32; 4],
 ) -> GradientAnswerF32
     requires { ⌜ Ready «axis_count» axes (length (now vals)) strides ⌝ }
-    ensures { λ r. ⌜ r .outcome ≡ foundOutcome 0 (find 0 (axesIn binary32 «linearize_extrapolation» «axis_count» (asAxes axes)) (at x)) ⌝ }
+    ensures { λ r. ⌜ r .outcome ≡ foundOutcome 0 (find 0 (axesIn binary32 mode «axis_count» (asAxes axes)) (at x)) ⌝ }
     ensures { λ r. ⌜
-        r .gradient ≡ gradientTo binary32 (axesIn binary32 «linearize_extrapolation» «axis_count» (asAxes axes)) (now (vals .entry))
-        (find 0 (axesIn binary32 «linearize_extrapolation» «axis_count» (asAxes axes)) (at x))
+        r .gradient ≡ gradientTo binary32 (axesIn binary32 mode «axis_count» (asAxes axes)) (now (vals .entry))
+        (find 0 (axesIn binary32 mode «axis_count» (asAxes axes)) (at x))
         ⌝ }
 {
     let mut gradient = [0.0; 4];
@@ -161,7 +165,7 @@ fn gradient_at(
             axis_count,
             axes,
             vals,
-            linearize_extrapolation,
+            mode,
             strides,
             &x,
             1,
@@ -209,7 +213,7 @@ pub fn interp_one_grad(
             axis_count,
             axes,
             vals,
-            linearize_extrapolation(mode),
+            mode,
             strides(axis_count, counts_of(axes)),
             x,
         ),

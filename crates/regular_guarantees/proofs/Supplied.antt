@@ -8,11 +8,15 @@ use lib.ListN.{length, take}
 use lib.Ieee.{Float, Format}
 use Rattle.multicubic.specs.declared.Axis.{Axis}
 use Rattle.multicubic.specs.declared.EdgeMode.{EdgeMode}
+use Rattle.multicubic.specs.declared.EdgeMode.the-variants.{Held}
 use Rattle.grid.specs.Query.{at}
+use Rattle.grid.specs.Edges.{AtClamped}
+use Rattle.grid.proofs.AtNodes.{AtEach}
 use Rattle.regular_query.specs.Grid.{gridOf, AllPremises}
 use Rattle.regular_query.proofs.Sizes.{passed, sized}
-use Rattle.regular.proofs.Laws.{node-laws}
+use Rattle.regular.proofs.Laws.{node-laws, clamped-rows}
 use Rattle.regular.proofs.Guarantees.{axes-counted}
+use Rattle.guarantees.specs.Statements.{IsAccepted}
 use Rattle.guarantees.proofs.Typing.{Typed}
 use Rattle.guarantees.proofs.Nodes.{Supplied}
 use Rattle.guarantees.proofs.Blocks.{Counted}
@@ -25,3 +29,8 @@ module _ (f : Format) (n : ℕ) (axes : List Axis) (vals : List Float) (mode : E
   counted four taken =
       let few : n ≤ 4 = passed n axes (length vals) taken .few in
       (axes-counted f n axes vals mode (omega arith), few)
+
+-- the rows of a query that is at a node or past an end, where the edges are held
+pub clamped : (f : Format) (n : ℕ) (axes : List Axis) (vals : List Float) (query : ℕ → Float) → Typed f query
+    → IsAccepted (gridOf f n axes vals Held) → AllPremises (take n axes) → (is : List ℕ) → AtClamped 0 (gridOf f n axes vals Held .axes) is query → AtEach 0 (gridOf f n axes vals Held .axes) is query
+clamped f n axes vals query typed taken premises is at = clamped-rows f n axes vals Held taken premises is query typed at

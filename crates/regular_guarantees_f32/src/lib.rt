@@ -3,14 +3,16 @@
 ghost use mathlib.Core.Path.{_≡_};
 ghost use lib.ListN.{take};
 ghost use lib.Ieee.{binary32};
-ghost use Rattle.grid.specs.Query.{at};
+ghost use Rattle.multicubic.specs.declared.EdgeMode.the-variants.{Held};
+ghost use Rattle.grid.specs.Query.{at, valueAnswer};
 ghost use Rattle.grid.specs.Batch.{interpOutcome};
 ghost use Rattle.regular_query.specs.Grid.{gridOf, AllPremises};
-ghost use Rattle.guarantees.specs.Statements.{AnswersOf, BuffersOf, OwedAlone, OwedInBatch};
+ghost use Rattle.guarantees.specs.Statements.{AnswersOf, BuffersOf, HeldEdge, OwedAlone, OwedInBatch};
 ghost use Rattle.multicubic_f32.specs.Same.{asAnswer, asAxes};
 use guarantees_f32::TwoTablesF32;
 use multicubic::EdgeMode;
 use multicubic::Outcome;
+use multicubic_f32::AnswerF32;
 use multicubic_f32::AxisF32;
 
 // A query asked alone: `interp_one` and `interp_one_grad` on both tables.
@@ -83,4 +85,13 @@ pub fn in_batch(
         other_grad,
     );
     outcome
+}
+
+// Clause 8.6: a query past the ends, or at nodes, of a grid that holds its edges.
+pub fn held_edge(axis_count: usize, axes: [AxisF32; 4], vals: &[f32], x: [f32; 4]) -> AnswerF32
+    ensures { λ r. ⌜ HeldEdge (AllPremises (take «axis_count» (asAxes axes)))
+        (gridOf binary32 «axis_count» (asAxes axes) (now (vals .entry)) Held) (at x) (asAnswer r) ⌝ }
+    ensures { λ r. ⌜ asAnswer r ≡ valueAnswer binary32 (gridOf binary32 «axis_count» (asAxes axes) (now (vals .entry)) Held) (at x) ⌝ }
+{
+    regular_f32::interp_one(axis_count, axes, vals, EdgeMode::Held, x)
 }

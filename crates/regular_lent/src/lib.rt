@@ -3,22 +3,21 @@
 ghost use mathlib.Core.Path.{_≡_};
 ghost use lib.ListN.{length};
 ghost use lib.Ieee.{binary64};
-ghost use Rattle.multicubic.specs.declared.EdgeMode.{EdgeMode};
 ghost use Rattle.multicubic.specs.Same.{asAnswer};
 ghost use Rattle.grid.specs.Query.{at, valueAnswer};
-ghost use Rattle.slices.specs.Slices.{modeOf, lower};
+ghost use Rattle.slices.specs.Slices.{lower};
 ghost use Rattle.slices.specs.Lent.{lent};
 ghost use Rattle.slices.specs.Internal.{PlacesOn, GradientOn, InterpOn, InterpGradOn};
 ghost use Rattle.regular_query.specs.Grid.{checksOf, gridOf};
 use multicubic::Answer;
 use multicubic::Axis;
+use multicubic::EdgeMode;
 use multicubic::GradientAnswer;
 use multicubic::Outcome;
 use multicubic::PlaceAnswer;
 use multicubic::answered;
 use multicubic::nowhere;
 use slices::lower;
-use slices::mode_of;
 
 // The refusal of the slices, or the grid's own.
 pub fn new(slices: Outcome, axis_count: usize, axes: [Axis; 4], vals: &[f64]) -> Outcome
@@ -33,16 +32,17 @@ pub fn get_loc(
     axis_count: usize,
     axes: [Axis; 4],
     vals: &[f64],
+    mode: EdgeMode,
     x: [f64; 4],
 ) -> PlaceAnswer
-    ensures { λ r. ⌜ ((mode : EdgeMode) → PlacesOn (lent slices (gridOf binary64 «axis_count» axes (now (vals .entry)) mode)) x (r .outcome) (r .places)) ⌝ }
+    ensures { λ r. ⌜ PlacesOn (lent slices (gridOf binary64 «axis_count» axes (now (vals .entry)) mode)) x (r .outcome) (r .places) ⌝ }
 {
     match slices {
         Outcome::Refused { .. } => PlaceAnswer {
             outcome: new(slices, axis_count, axes, vals),
             places: nowhere(),
         },
-        Outcome::Accepted => regular::get_loc(axis_count, axes, vals, x),
+        Outcome::Accepted => regular::get_loc(axis_count, axes, vals, mode, x),
     }
 }
 
@@ -52,14 +52,14 @@ pub fn interp_one(
     axis_count: usize,
     axes: [Axis; 4],
     vals: &[f64],
-    straight: bool,
+    mode: EdgeMode,
     x: [f64; 4],
 ) -> Answer
-    ensures { λ r. ⌜ asAnswer r ≡ valueAnswer binary64 (lent slices (gridOf binary64 «axis_count» axes (now (vals .entry)) (modeOf straight))) (at x) ⌝ }
+    ensures { λ r. ⌜ asAnswer r ≡ valueAnswer binary64 (lent slices (gridOf binary64 «axis_count» axes (now (vals .entry)) mode)) (at x) ⌝ }
 {
     match slices {
         Outcome::Refused { .. } => answered(new(slices, axis_count, axes, vals), 0.0),
-        Outcome::Accepted => regular::interp_one(axis_count, axes, vals, mode_of(straight), x),
+        Outcome::Accepted => regular::interp_one(axis_count, axes, vals, mode, x),
     }
 }
 
@@ -69,17 +69,17 @@ pub fn interp_one_grad(
     axis_count: usize,
     axes: [Axis; 4],
     vals: &[f64],
-    straight: bool,
+    mode: EdgeMode,
     x: [f64; 4],
 ) -> GradientAnswer
-    ensures { λ r. ⌜ GradientOn binary64 (lent slices (gridOf binary64 «axis_count» axes (now (vals .entry)) (modeOf straight))) x (r .outcome) (r .gradient) ⌝ }
+    ensures { λ r. ⌜ GradientOn binary64 (lent slices (gridOf binary64 «axis_count» axes (now (vals .entry)) mode)) x (r .outcome) (r .gradient) ⌝ }
 {
     match slices {
         Outcome::Refused { .. } => GradientAnswer {
             outcome: new(slices, axis_count, axes, vals),
             gradient: [0.0, 0.0, 0.0, 0.0],
         },
-        Outcome::Accepted => regular::interp_one_grad(axis_count, axes, vals, mode_of(straight), x),
+        Outcome::Accepted => regular::interp_one_grad(axis_count, axes, vals, mode, x),
     }
 }
 
@@ -89,20 +89,18 @@ pub fn interp(
     axis_count: usize,
     axes: [Axis; 4],
     vals: &[f64],
-    straight: bool,
+    mode: EdgeMode,
     queries: &[f64],
     out: &mut [f64],
 ) -> Outcome
     ensures { λ r. ⌜
-        InterpOn binary64 (lent slices (gridOf binary64 «axis_count» axes (now (vals .entry)) (modeOf straight)))
+        InterpOn binary64 (lent slices (gridOf binary64 «axis_count» axes (now (vals .entry)) mode))
         (now (queries .entry)) (now (out .entry)) r (now (out .exit))
         ⌝ }
 {
     match slices {
         Outcome::Refused { .. } => new(slices, axis_count, axes, vals),
-        Outcome::Accepted => {
-            regular_batch::interp(axis_count, axes, vals, mode_of(straight), queries, out)
-        }
+        Outcome::Accepted => regular_batch::interp(axis_count, axes, vals, mode, queries, out),
     }
 }
 
@@ -112,19 +110,17 @@ pub fn interp_grad(
     axis_count: usize,
     axes: [Axis; 4],
     vals: &[f64],
-    straight: bool,
+    mode: EdgeMode,
     queries: &[f64],
     out: &mut [f64],
 ) -> Outcome
     ensures { λ r. ⌜
-        InterpGradOn binary64 (lent slices (gridOf binary64 «axis_count» axes (now (vals .entry)) (modeOf straight)))
+        InterpGradOn binary64 (lent slices (gridOf binary64 «axis_count» axes (now (vals .entry)) mode))
         (now (queries .entry)) (now (out .entry)) r (now (out .exit))
         ⌝ }
 {
     match slices {
         Outcome::Refused { .. } => new(slices, axis_count, axes, vals),
-        Outcome::Accepted => {
-            regular_batch::interp_grad(axis_count, axes, vals, mode_of(straight), queries, out)
-        }
+        Outcome::Accepted => regular_batch::interp_grad(axis_count, axes, vals, mode, queries, out),
     }
 }

@@ -4,13 +4,13 @@
 ghost use mathlib.Core.Path.{_≡_};
 ghost use lib.ListN.{length};
 ghost use lib.Ieee.{binary32};
-ghost use Rattle.multicubic.specs.declared.EdgeMode.{EdgeMode};
 ghost use Rattle.grid.specs.Query.{at, valueAnswer};
-ghost use Rattle.slices.specs.Slices.{modeOf, lower};
+ghost use Rattle.slices.specs.Slices.{lower};
 ghost use Rattle.slices.specs.Lent.{lent};
 ghost use Rattle.slices.specs.Internal.{PlacesOn, GradientOn, InterpOn, InterpGradOn};
 ghost use Rattle.regular_query.specs.Grid.{checksOf, gridOf};
 ghost use Rattle.multicubic_f32.specs.Same.{asAnswer, asAxes};
+use multicubic::EdgeMode;
 use multicubic::Outcome;
 use multicubic::PlaceAnswer;
 use multicubic::nowhere;
@@ -19,7 +19,6 @@ use multicubic_f32::AxisF32;
 use multicubic_f32::GradientAnswerF32;
 use multicubic_f32::answered;
 use slices::lower;
-use slices::mode_of;
 
 // The refusal of the slices, or the grid's own.
 pub fn new(slices: Outcome, axis_count: usize, axes: [AxisF32; 4], vals: &[f32]) -> Outcome
@@ -34,16 +33,17 @@ pub fn get_loc(
     axis_count: usize,
     axes: [AxisF32; 4],
     vals: &[f32],
+    mode: EdgeMode,
     x: [f32; 4],
 ) -> PlaceAnswer
-    ensures { λ r. ⌜ ((mode : EdgeMode) → PlacesOn (lent slices (gridOf binary32 «axis_count» (asAxes axes) (now (vals .entry)) mode)) x (r .outcome) (r .places)) ⌝ }
+    ensures { λ r. ⌜ PlacesOn (lent slices (gridOf binary32 «axis_count» (asAxes axes) (now (vals .entry)) mode)) x (r .outcome) (r .places) ⌝ }
 {
     match slices {
         Outcome::Refused { .. } => PlaceAnswer {
             outcome: new(slices, axis_count, axes, vals),
             places: nowhere(),
         },
-        Outcome::Accepted => regular_f32::get_loc(axis_count, axes, vals, x),
+        Outcome::Accepted => regular_f32::get_loc(axis_count, axes, vals, mode, x),
     }
 }
 
@@ -53,14 +53,14 @@ pub fn interp_one(
     axis_count: usize,
     axes: [AxisF32; 4],
     vals: &[f32],
-    straight: bool,
+    mode: EdgeMode,
     x: [f32; 4],
 ) -> AnswerF32
-    ensures { λ r. ⌜ asAnswer r ≡ valueAnswer binary32 (lent slices (gridOf binary32 «axis_count» (asAxes axes) (now (vals .entry)) (modeOf straight))) (at x) ⌝ }
+    ensures { λ r. ⌜ asAnswer r ≡ valueAnswer binary32 (lent slices (gridOf binary32 «axis_count» (asAxes axes) (now (vals .entry)) mode)) (at x) ⌝ }
 {
     match slices {
         Outcome::Refused { .. } => answered(new(slices, axis_count, axes, vals), 0.0),
-        Outcome::Accepted => regular_f32::interp_one(axis_count, axes, vals, mode_of(straight), x),
+        Outcome::Accepted => regular_f32::interp_one(axis_count, axes, vals, mode, x),
     }
 }
 
@@ -70,23 +70,17 @@ pub fn interp_one_grad(
     axis_count: usize,
     axes: [AxisF32; 4],
     vals: &[f32],
-    straight: bool,
+    mode: EdgeMode,
     x: [f32; 4],
 ) -> GradientAnswerF32
-    ensures { λ r. ⌜ GradientOn binary32 (lent slices (gridOf binary32 «axis_count» (asAxes axes) (now (vals .entry)) (modeOf straight))) x (r .outcome) (r .gradient) ⌝ }
+    ensures { λ r. ⌜ GradientOn binary32 (lent slices (gridOf binary32 «axis_count» (asAxes axes) (now (vals .entry)) mode)) x (r .outcome) (r .gradient) ⌝ }
 {
     match slices {
         Outcome::Refused { .. } => GradientAnswerF32 {
             outcome: new(slices, axis_count, axes, vals),
             gradient: [0.0, 0.0, 0.0, 0.0],
         },
-        Outcome::Accepted => regular_f32::interp_one_grad(
-            axis_count,
-            axes,
-            vals,
-            mode_of(straight),
-            x,
-        ),
+        Outcome::Accepted => regular_f32::interp_one_grad(axis_count, axes, vals, mode, x),
     }
 }
 
@@ -96,20 +90,18 @@ pub fn interp(
     axis_count: usize,
     axes: [AxisF32; 4],
     vals: &[f32],
-    straight: bool,
+    mode: EdgeMode,
     queries: &[f32],
     out: &mut [f32],
 ) -> Outcome
     ensures { λ r. ⌜
-        InterpOn binary32 (lent slices (gridOf binary32 «axis_count» (asAxes axes) (now (vals .entry)) (modeOf straight)))
+        InterpOn binary32 (lent slices (gridOf binary32 «axis_count» (asAxes axes) (now (vals .entry)) mode))
         (now (queries .entry)) (now (out .entry)) r (now (out .exit))
         ⌝ }
 {
     match slices {
         Outcome::Refused { .. } => new(slices, axis_count, axes, vals),
-        Outcome::Accepted => {
-            regular_batch_f32::interp(axis_count, axes, vals, mode_of(straight), queries, out)
-        }
+        Outcome::Accepted => regular_batch_f32::interp(axis_count, axes, vals, mode, queries, out),
     }
 }
 
@@ -119,19 +111,24 @@ pub fn interp_grad(
     axis_count: usize,
     axes: [AxisF32; 4],
     vals: &[f32],
-    straight: bool,
+    mode: EdgeMode,
     queries: &[f32],
     out: &mut [f32],
 ) -> Outcome
     ensures { λ r. ⌜
-        InterpGradOn binary32 (lent slices (gridOf binary32 «axis_count» (asAxes axes) (now (vals .entry)) (modeOf straight)))
+        InterpGradOn binary32 (lent slices (gridOf binary32 «axis_count» (asAxes axes) (now (vals .entry)) mode))
         (now (queries .entry)) (now (out .entry)) r (now (out .exit))
         ⌝ }
 {
     match slices {
         Outcome::Refused { .. } => new(slices, axis_count, axes, vals),
-        Outcome::Accepted => {
-            regular_batch_f32::interp_grad(axis_count, axes, vals, mode_of(straight), queries, out)
-        }
+        Outcome::Accepted => regular_batch_f32::interp_grad(
+            axis_count,
+            axes,
+            vals,
+            mode,
+            queries,
+            out,
+        ),
     }
 }

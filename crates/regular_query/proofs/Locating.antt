@@ -12,6 +12,7 @@ use lib.Seq.{length-take-le}
 use lib.Ieee.{Float, Format}
 use Rattle.multicubic.specs.declared.Axis.{Axis}
 use Rattle.multicubic.specs.declared.AxesLength.the-variants.{Regular}
+use Rattle.multicubic.specs.declared.EdgeMode.{EdgeMode}
 use Rattle.multicubic.specs.declared.Loc.the-variants.{At, Unplaceable}
 use Rattle.multicubic.specs.declared.Place.{Place}
 use Rattle.multicubic.specs.Place.{placeOf}
@@ -25,7 +26,8 @@ use Rattle.grid.specs.Nodes.{All}
 use Rattle.grid.proofs.Premises.{Long}
 use Rattle.grid.proofs.Sizes.{all-long, each-long}
 use Rattle.grid.proofs.Fit.{Roomy, roomy-place, Fit, fits-by}
-use Rattle.regular_query.specs.Grid.{countsOf, checksOf, gridAxis, gridAxes, axesIn}
+use Rattle.grid.proofs.Edges.{edge-roomy}
+use Rattle.regular_query.specs.Grid.{countsOf, checksOf, gridAxis, axisIn, gridAxes, axesIn}
 use Rattle.regular_query.specs.Internal.{Taken, Ready}
 use Rattle.regular_query.proofs.Calls.{noAxis, counts-length}
 use Rattle.regular_query.proofs.Sizes.{counts-taken, grid-counts, passed}
@@ -36,18 +38,18 @@ count-at (a ∷ axes) zero = refl
 count-at (a ∷ axes) (suc j) = count-at axes j
 
 -- axis j of the grid
-pub axis-at : (f : Format) (straight : Bool) (n : ℕ) (axes : List Axis) (j : ℕ) → j < n → n ≤ length axes → getD (gridAxes f straight (take n axes)) j noGridAxis ≡ gridAxis f straight (getD axes j noAxis)
-axis-at f straight zero axes j h k = absurd (omega arith)
-axis-at f straight (suc n) [] j h k = absurd (omega arith)
-axis-at f straight (suc n) (a ∷ axes) zero h k = refl
-axis-at f straight (suc n) (a ∷ axes) (suc j) h k = axis-at f straight n axes j (omega arith) (omega arith)
+pub axis-at : (f : Format) (mode : EdgeMode) (n : ℕ) (axes : List Axis) (j : ℕ) → j < n → n ≤ length axes → getD (gridAxes f mode (take n axes)) j noGridAxis ≡ axisIn f mode (getD axes j noAxis)
+axis-at f mode zero axes j h k = absurd (omega arith)
+axis-at f mode (suc n) [] j h k = absurd (omega arith)
+axis-at f mode (suc n) (a ∷ axes) zero h k = refl
+axis-at f mode (suc n) (a ∷ axes) (suc j) h k = axis-at f mode n axes j (omega arith) (omega arith)
 
-axes-length : (f : Format) (straight : Bool) (axes : List Axis) → length (gridAxes f straight axes) ≡ length axes
-axes-length f straight [] = refl
-axes-length f straight (a ∷ rest) = ap suc (axes-length f straight rest)
+axes-length : (f : Format) (mode : EdgeMode) (axes : List Axis) → length (gridAxes f mode axes) ≡ length axes
+axes-length f mode [] = refl
+axes-length f mode (a ∷ rest) = ap suc (axes-length f mode rest)
 
-pub axes-long : (f : Format) (straight : Bool) (n : ℕ) (axes : List Axis) → n ≤ length axes → length (gridAxes f straight (take n axes)) ≡ n
-axes-long f straight n axes h = axes-length f straight (take n axes) ∙ length-take-le n axes h
+pub axes-long : (f : Format) (mode : EdgeMode) (n : ℕ) (axes : List Axis) → n ≤ length axes → length (gridAxes f mode (take n axes)) ≡ n
+axes-long f mode n axes h = axes-length f mode (take n axes) ∙ length-take-le n axes h
 
 roomy-axis : (f : Format) (straight : Bool) (a : Axis) → 4 ≤ a .count → Roomy (gridAxis f straight a)
 roomy-axis f straight a h x p e = go (refused8 (quotient f (a .start) (a .step) x)) e
@@ -56,9 +58,9 @@ roomy-axis f straight a h x p e = go (refused8 (quotient f (a .start) (a .step) 
     go true e = absurd (let y : _≡_ {A = ℕ} 0 1 = cc in omega arith)
     go false e = roomy-place (a .count) (floorOf (quotient f (a .start) (a .step) x) -ℤ pos 1) p h e
 
-roomy-axes : (f : Format) (straight : Bool) (axes : List Axis) → Long (countsOf axes) → All Roomy (gridAxes f straight axes)
-roomy-axes f straight [] h = tt
-roomy-axes f straight (a ∷ axes) h = (roomy-axis f straight a (h .0), roomy-axes f straight axes (h .1))
+roomy-axes : (f : Format) (mode : EdgeMode) (axes : List Axis) → Long (countsOf axes) → All Roomy (gridAxes f mode axes)
+roomy-axes f mode [] h = tt
+roomy-axes f mode (a ∷ axes) h = (edge-roomy mode (λ straight. gridAxis f straight a) (λ straight. roomy-axis f straight a (h .0)), roomy-axes f mode axes (h .1))
 
 -- what `strides` asks, and what it then tells
 module _ (n : ℕ) (axes : List Axis) (values : ℕ) (checked : checksOf n axes values ≡ Accepted) (cs : List ℕ) (counted : cs ≡ countsOf axes) where
@@ -72,32 +74,39 @@ abbrev pub taken-of : {n : ℕ} {axes : List Axis} {values : ℕ} {strides : Lis
 taken-of {values = values} ready = record { values = values; checked = ready .checked }
 
 -- a grid that is taken
-module _ (f : Format) (straight : Bool) {n : ℕ} {axes : List Axis} (four : length axes ≡ 4) (taken : Taken n axes) where
+module _ (f : Format) (mode : EdgeMode) {n : ℕ} {axes : List Axis} (four : length axes ≡ 4) (taken : Taken n axes) where
   sizes : Passed n (countsOf axes) (taken .values) Regular
   sizes = passed n axes (taken .values) (taken .checked)
 
-  counts-are : gridCounts (axesIn f straight n axes) ≡ take n (countsOf axes)
-  counts-are = grid-counts f straight (take n axes) ∙ counts-taken n axes
+  counts-are : gridCounts (axesIn f mode n axes) ≡ take n (countsOf axes)
+  counts-are = grid-counts f mode (take n axes) ∙ counts-taken n axes
 
-  pub fit : Fit n (axesIn f straight n axes) (taken .values)
+  pub fit : Fit n (axesIn f mode n axes) (taken .values)
   fit =
       let few = sizes .few in
-      fits-by (axesIn f straight n axes) sizes (axes-long f straight n axes (omega arith)) counts-are
-      (roomy-axes f straight (take n axes) (subst Long (sym (counts-taken n axes)) (all-long (take n (countsOf axes)) (sizes .long))))
+      fits-by (axesIn f mode n axes) sizes (axes-long f mode n axes (omega arith)) counts-are
+      (roomy-axes f mode (take n axes) (subst Long (sym (counts-taken n axes)) (all-long (take n (countsOf axes)) (sizes .long))))
 
-  pub spaced-by : (strides : List ℕ) → take n strides ≡ stridesOf (take n (countsOf axes)) → take n strides ≡ stridesOf (gridCounts (axesIn f straight n axes))
+  pub spaced-by : (strides : List ℕ) → take n strides ≡ stridesOf (take n (countsOf axes)) → take n strides ≡ stridesOf (gridCounts (axesIn f mode n axes))
   spaced-by strides e = e ∙ ap stridesOf (sym counts-are)
 
   module _ (j : ℕ) (h : j < n) where
     pub long-at : 4 ≤ getD axes j noAxis .count
     long-at = rw (← count-at axes j) (each-long n (countsOf axes) (taken .values) Regular sizes (counts-length axes ∙ four) j h)
 
-    pub axis-is : gridAxis f straight (getD axes j noAxis) ≡ getD (axesIn f straight n axes) j noGridAxis
-    axis-is = let few = sizes .few in sym (axis-at f straight n axes j h (omega arith))
+    pub axis-is : axisIn f mode (getD axes j noAxis) ≡ getD (axesIn f mode n axes) j noGridAxis
+    axis-is = let few = sizes .few in sym (axis-at f mode n axes j h (omega arith))
+
+    pub most-at : getD axes j noAxis .count ≤ 4096
+    most-at = rw (← count-at axes j) (count-within n (countsOf axes) j h (sizes .within))
+
+    -- what its ends' nodes ask
+    pub spanned : (4 ≤ getD axes j noAxis .count) × (getD axes j noAxis .count ≤ 4096)
+    spanned = (long-at, most-at)
 
     -- it fits a u32
-    pub origin-below : (x : Float) (p : Place) → At p ≡ gridAxis f straight (getD axes j noAxis) .loc x → p .origin < 4096
-    origin-below x p e =
-        let most : getD axes j noAxis .count ≤ 4096 = rw (← count-at axes j) (count-within n (countsOf axes) j h (sizes .within)) in
+    pub origin-below : (straight : Bool) (x : Float) (p : Place) → At p ≡ gridAxis f straight (getD axes j noAxis) .loc x → p .origin < 4096
+    origin-below straight x p e =
+        let most = most-at in
         let room : p .origin + 4 ≤ getD axes j noAxis .count = roomy-axis f straight (getD axes j noAxis) long-at x p (sym e) in
         omega arith

@@ -1,4 +1,4 @@
--- Section 2, regular: an axis is its start, its step and its count.
+-- Section 2 and clause 3.7, regular: an axis is its start, its step and its count.
 use Prim.Native.Nat.{ℕ}
 use mathlib.Core.Bool.{Bool, not}
 use mathlib.Core.List.{List, map}
@@ -10,11 +10,10 @@ use Rattle.multicubic.specs.declared.AxesLength.the-variants.{Regular}
 use Rattle.multicubic.specs.declared.EdgeMode.{EdgeMode}
 use Rattle.multicubic.specs.declared.Outcome.{Outcome}
 use Rattle.multicubic.specs.Grid.{lowest, _then_, sizeChecks}
-use Rattle.multicubic.specs.Place.{straightOf}
 use Rattle.regular_axis.specs.Place.{locOf}
 use Rattle.regular_axis.specs.Weights.{node, weightsAt, derivativesAt}
 use Rattle.regular_axis.specs.Nodes.{Premises}
-use Rattle.grid.specs.Query.{GridAxis, Grid}
+use Rattle.grid.specs.Query.{GridAxis, edgeAxis, Grid}
 use Rattle.grid.specs.Nodes.{All}
 
 -- check 5: the step is not above 0
@@ -37,18 +36,22 @@ gridAxis f straight a = record {
   node = node f (a .start) (a .step);
 }
 
-abbrev pub gridAxes : Format → Bool → List Axis → List GridAxis
-gridAxes f straight axes = map (gridAxis f straight) axes
+-- in a setting
+abbrev pub axisIn : Format → EdgeMode → Axis → GridAxis
+axisIn f mode a = edgeAxis mode (λ straight. gridAxis f straight a)
+
+abbrev pub gridAxes : Format → EdgeMode → List Axis → List GridAxis
+gridAxes f mode axes = map (axisIn f mode) axes
 
 -- the first n of them
-abbrev pub axesIn : Format → Bool → ℕ → List Axis → List GridAxis
-axesIn f straight n axes = gridAxes f straight (take n axes)
+abbrev pub axesIn : Format → EdgeMode → ℕ → List Axis → List GridAxis
+axesIn f mode n axes = gridAxes f mode (take n axes)
 
 abbrev pub gridOf : Format → ℕ → List Axis → List Float → EdgeMode → Grid
 gridOf f n axes vals mode = record {
   checked = checksOf n axes (length vals);
   axis-count = n;
-  axes = axesIn f (straightOf mode) n axes;
+  axes = axesIn f mode n axes;
   vals = vals;
 }
 

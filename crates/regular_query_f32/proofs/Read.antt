@@ -32,8 +32,11 @@ notRising a = Grid.notRising (asAxis a)
 abbrev pub gridAxis : Format → Bool → AxisF32 → GridAxis
 gridAxis f straight a = Grid.gridAxis f straight (asAxis a)
 
-abbrev pub axesIn : Format → Bool → ℕ → List AxisF32 → List GridAxis
-axesIn f straight n axes = Grid.axesIn f straight n (asAxes axes)
+abbrev pub axisIn : Format → EdgeMode → AxisF32 → GridAxis
+axisIn f mode a = Grid.axisIn f mode (asAxis a)
+
+abbrev pub axesIn : Format → EdgeMode → ℕ → List AxisF32 → List GridAxis
+axesIn f mode n axes = Grid.axesIn f mode n (asAxes axes)
 
 abbrev pub gridOf : Format → ℕ → List AxisF32 → List Float → EdgeMode → TheGrid
 gridOf f n axes vals mode = Grid.gridOf f n (asAxes axes) vals mode
@@ -71,25 +74,28 @@ module _ (n : ℕ) (axes : List AxisF32) (values : ℕ) (checked : Grid.checksOf
 abbrev pub taken-of : {n : ℕ} {axes : List AxisF32} {values : ℕ} {strides : List ℕ} → Ready n axes values strides → Taken n axes
 taken-of {values = values} ready = record { values = values; checked = ready .checked }
 
-module _ (f : Format) (straight : Bool) {n : ℕ} {axes : List AxisF32} (four : length axes ≡ 4) (taken : Taken n axes) where
+module _ (f : Format) (mode : EdgeMode) {n : ℕ} {axes : List AxisF32} (four : length axes ≡ 4) (taken : Taken n axes) where
   four-read : length (asAxes axes) ≡ 4
   four-read = length-map axes asAxis ∙ four
 
   abbrev taken-read : Internal.Taken n (asAxes axes)
   taken-read = record { values = taken .values; checked = taken .checked }
 
-  pub fit : Fit n (axesIn f straight n axes) (taken .values)
-  fit = Locating.fit f straight four-read taken-read
+  pub fit : Fit n (axesIn f mode n axes) (taken .values)
+  fit = Locating.fit f mode four-read taken-read
 
-  pub spaced-by : (strides : List ℕ) → take n strides ≡ stridesOf (take n (Grid.countsOf (asAxes axes))) → take n strides ≡ stridesOf (gridCounts (axesIn f straight n axes))
-  spaced-by = Locating.spaced-by f straight four-read taken-read
+  pub spaced-by : (strides : List ℕ) → take n strides ≡ stridesOf (take n (Grid.countsOf (asAxes axes))) → take n strides ≡ stridesOf (gridCounts (axesIn f mode n axes))
+  spaced-by = Locating.spaced-by f mode four-read taken-read
 
   module _ (j : ℕ) (h : j < n) where
     pub long-at : 4 ≤ getD axes j noAxis .count
-    long-at = subst (λ (a : Axis). 4 ≤ a .count) (read-at axes j) (Locating.long-at f straight four-read taken-read j h)
+    long-at = subst (λ (a : Axis). 4 ≤ a .count) (read-at axes j) (Locating.long-at f mode four-read taken-read j h)
 
-    pub axis-is : gridAxis f straight (getD axes j noAxis) ≡ getD (axesIn f straight n axes) j noGridAxis
-    axis-is = ap (Grid.gridAxis f straight) (sym (read-at axes j)) ∙ Locating.axis-is f straight four-read taken-read j h
+    pub spanned : (4 ≤ getD axes j noAxis .count) × (getD axes j noAxis .count ≤ 4096)
+    spanned = subst (λ (a : Axis). (4 ≤ a .count) × (a .count ≤ 4096)) (read-at axes j) (Locating.spanned f mode four-read taken-read j h)
 
-    pub origin-below : (x : Float) (p : Place) → At p ≡ gridAxis f straight (getD axes j noAxis) .loc x → p .origin < 4096
-    origin-below x p e = Locating.origin-below f straight four-read taken-read j h x p (e ∙ ap (λ (a : Axis). Grid.gridAxis f straight a .loc x) (sym (read-at axes j)))
+    pub axis-is : axisIn f mode (getD axes j noAxis) ≡ getD (axesIn f mode n axes) j noGridAxis
+    axis-is = ap (Grid.axisIn f mode) (sym (read-at axes j)) ∙ Locating.axis-is f mode four-read taken-read j h
+
+    pub origin-below : (straight : Bool) (x : Float) (p : Place) → At p ≡ gridAxis f straight (getD axes j noAxis) .loc x → p .origin < 4096
+    origin-below straight x p e = Locating.origin-below f mode four-read taken-read j h straight x p (e ∙ ap (λ (a : Axis). Grid.gridAxis f straight a .loc x) (sym (read-at axes j)))

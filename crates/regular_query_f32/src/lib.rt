@@ -1,18 +1,23 @@
 // f32: written by tools/width from crates/regular_query/src/lib.rt; what has no float is called there.
 // A query on a regular grid that is taken: what single answers and batches ask for each of their queries.
 ghost use mathlib.Core.Path.{_≡_};
+ghost use mathlib.Core.Bool.{Bool};
 ghost use Prim.Native.Nat.{_*_, _≤_, _<_};
 ghost use lib.ListN.{length};
 ghost use lib.Ieee.{binary32};
 ghost use Rattle.grid.specs.Batch.{foundAt};
-ghost use Rattle.grid.specs.Internal.{rowAt, Asked, answerTo};
+ghost use Rattle.grid.specs.Internal.{replacedIn, rowBy, Asked, answerTo};
 ghost use Rattle.regular_query.specs.Grid.{countsOf, gridAxis, axesIn};
 ghost use Rattle.regular_query_f32.specs.Internal.{Ready};
 ghost use Rattle.multicubic_f32.specs.Same.{asAnswer, asAxis, asAxes};
 use grid::Quantity;
 use grid::is_component;
+use multicubic::EdgeMode;
 use multicubic::Loc;
+use multicubic::Marks;
 use multicubic::Place;
+use multicubic::is_past;
+use multicubic::linearize_extrapolation;
 use multicubic::refused_query;
 use multicubic_f32::AnswerF32;
 use multicubic_f32::AxisF32;
@@ -23,6 +28,8 @@ use reduction_f32::reduce3;
 use reduction_f32::reduce4;
 use regular_axis_f32::derivatives_at;
 use regular_axis_f32::get_loc;
+use regular_axis_f32::hold;
+use regular_axis_f32::marks_at;
 use regular_axis_f32::weights_at;
 
 pub fn counts_of(axes: [AxisF32; 4]) -> [usize; 4]
@@ -31,30 +38,50 @@ pub fn counts_of(axes: [AxisF32; 4]) -> [usize; 4]
     [axes[0].count, axes[1].count, axes[2].count, axes[3].count]
 }
 
-// The weights of x's block at its place, or its derivative weights.
+// At which ends of an axis the setting replaces a coordinate as given.
+pub fn replaced_at(axis: AxisF32, given: f32, mode: EdgeMode) -> Marks
+    requires { ⌜ (4 ≤ axis .count) × (axis .count ≤ 4096) ⌝ }
+    ensures { λ r. ⌜ ((straight : Bool) → r ≡ replacedIn mode (gridAxis binary32 straight (asAxis axis)) given) ⌝ }
+{
+    let neither = Marks {
+        below: false,
+        above: false,
+    };
+    match mode {
+        EdgeMode::Cubic => neither,
+        EdgeMode::Straight => neither,
+        EdgeMode::Held => marks_at(axis, given),
+    }
+}
+
+// The weights of x's block at its place, or its derivative weights: four +0 where x stands in place of another coordinate.
 fn row_at(
     axis: AxisF32,
     x: f32,
     place: Place,
     linearize_extrapolation: bool,
     derivative: bool,
+    replaced: Marks,
 ) -> [f32; 4]
     requires { ⌜ place .origin < 4096 ⌝ }
-    ensures { λ r. ⌜ r ≡ rowAt (gridAxis binary32 «linearize_extrapolation» (asAxis axis)) x place derivative ⌝ }
+    ensures { λ r. ⌜ r ≡ rowBy replaced (gridAxis binary32 «linearize_extrapolation» (asAxis axis)) x place derivative ⌝ }
 {
     if derivative {
+        if is_past(replaced) {
+            return [0.0; 4];
+        }
         return derivatives_at(axis, x, place, linearize_extrapolation);
     }
     weights_at(axis, x, place, linearize_extrapolation)
 }
 
-// What is asked of query i of a batch, in one pass over the axes: place, weigh, add to the index of the block's first value; then reduce.
-// The dispatch stands here, and not behind a call, so that the rows stay where they are.
+// What is asked of query i of a batch, in one pass over the axes: the coordinate as used in place of the one given, place, weigh, add to the
+// index of the block's first value; then reduce. The dispatch stands here, and not behind a call, so that the rows stay where they are.
 pub fn answer_at(
     axis_count: usize,
     axes: [AxisF32; 4],
     vals: &[f32],
-    linearize_extrapolation: bool,
+    mode: EdgeMode,
     strides: [usize; 4],
     queries: &[f32],
     count: usize,
@@ -65,22 +92,25 @@ pub fn answer_at(
     requires { ⌜ (i < count) × («axis_count» * count ≤ length (now queries)) ⌝ }
     requires { ⌜ Asked «axis_count» quantity ⌝ }
     ensures { λ r. ⌜
-        asAnswer r ≡ answerTo binary32 (axesIn binary32 «linearize_extrapolation» «axis_count» (asAxes axes)) (now (vals .entry)) quantity i
-        (foundAt (axesIn binary32 «linearize_extrapolation» «axis_count» (asAxes axes)) count (now (queries .entry)) i)
+        asAnswer r ≡ answerTo binary32 (axesIn binary32 mode «axis_count» (asAxes axes)) (now (vals .entry)) quantity i
+        (foundAt (axesIn binary32 mode «axis_count» (asAxes axes)) count (now (queries .entry)) i)
         ⌝ }
 {
+    let straight = linearize_extrapolation(mode);
     let mut rows = [[0.0; 4]; 4];
     let mut base: usize = 0;
     let mut at = i;
     let mut axis: usize = 0;
     while axis < axis_count {
-        let x = queries[at];
-        let loc = get_loc(axes[axis], x);
+        let given = queries[at];
+        let replaced = replaced_at(axes[axis], given, mode);
+        let used = hold(axes[axis], given, replaced);
+        let loc = get_loc(axes[axis], used);
         let Loc::At(place) = loc else {
             return answered(refused_query(i, axis), 0.0);
         };
         let derivative = is_component(quantity, axis);
-        rows[axis] = row_at(axes[axis], x, place, linearize_extrapolation, derivative);
+        rows[axis] = row_at(axes[axis], used, place, straight, derivative, replaced);
         let o = place.origin;
         let s = strides[axis];
         base = base + o * s;

@@ -1,13 +1,18 @@
 -- A grid gathered from slices of any length, as a call sees it: the refusals of slices that are too short are among its checks.
 use Prim.Native.Nat.{ℕ}
+use Rattle.multicubic.specs.declared.EdgeMode.{EdgeMode}
 use Rattle.multicubic.specs.declared.Outcome.{Outcome}
 use Rattle.grid.specs.Query.{Grid}
-use Rattle.slices.specs.Slices.{slicesOf, querySlicesOf, lower}
+use Rattle.slices.specs.Slices.{modeOf, namedBy, slicesOf, querySlicesOf, lower}
 
 -- a grid, and the length of the shortest slice that it is gathered from
 pub record Gathered : Type 0 where
   pub grid : Grid
   pub shortest : ℕ
+
+-- the grid in the setting that a number names; a number that names none is refused as a slice that is too short, 3
+abbrev pub setBy : (EdgeMode → Gathered) → ℕ → Gathered
+setBy from mode = record { grid = from (modeOf mode) .grid; shortest = namedBy mode (from (modeOf mode) .shortest) }
 
 abbrev pub lent : Outcome → Grid → Grid
 lent slices g = record { checked = lower slices (g .checked); axis-count = g .axis-count; axes = g .axes; vals = g .vals }

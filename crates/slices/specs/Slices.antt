@@ -1,13 +1,14 @@
--- What slices of any length add to the calls: the counts and the query are gathered from them, and those that are too short are refused.
+-- What slices of any length add to the calls: the counts and the query are gathered from them, and those that are too short are refused. The
+-- setting comes as a number; one that names none is refused with them.
 use Prim.Native.Nat.{ℕ, min}
-use mathlib.Core.Bool.{Bool, true, false, cond}
+use mathlib.Core.Bool.{cond}
 use mathlib.Core.List.{List, [], _∷_}
-use lib.Dec.{ltb}
+use lib.Dec.{ltb, eqb}
 use lib.ListN.{getD}
 use lib.Ieee.{Float}
 use Rattle.ieee.specs.Numbers.{zero}
 use Rattle.multicubic.specs.declared.EdgeMode.{EdgeMode}
-use Rattle.multicubic.specs.declared.EdgeMode.the-variants.{Cubic, Straight}
+use Rattle.multicubic.specs.declared.EdgeMode.the-variants.{Cubic, Straight, Held}
 use Rattle.multicubic.specs.declared.Outcome.{Outcome}
 use Rattle.multicubic.specs.declared.Outcome.the-variants.{Accepted, Refused}
 use Rattle.multicubic.specs.Grid.{refuse, _then_}
@@ -24,10 +25,14 @@ countsFrom counts = fourFrom 1 counts
 abbrev pub queryFrom : List Float → List Float
 queryFrom x = fourFrom zero x
 
--- the setting
-abbrev pub modeOf : Bool → EdgeMode
-modeOf false = Cubic
-modeOf true = Straight
+-- ---- the setting
+-- by its number; a call with a number above 2 is refused, so it does not matter which setting that has
+abbrev pub modeOf : ℕ → EdgeMode
+modeOf mode = cond (eqb mode 0) Cubic (cond (eqb mode 1) Straight Held)
+
+-- a number above 2 names no setting, and is refused as a slice without entries is
+abbrev pub namedBy : ℕ → ℕ → ℕ
+namedBy mode shortest = cond (ltb 2 mode) 0 shortest
 
 -- ---- too short
 -- the slices of a call without a single query: 3 where the shortest that is read has fewer than n entries, 7 where `refusal` has fewer than two

@@ -1,10 +1,11 @@
-// What slices of any length add to the calls: arrays gathered from them, and the refusals of those that are too short.
+// What slices of any length add to the calls: arrays gathered from them, and the refusals of those that are too short. The setting comes as a
+// number; one that names none is refused with them.
 ghost use mathlib.Core.Path.{_≡_};
 ghost use Prim.Native.Nat.{min};
 ghost use lib.ListN.{getD};
 ghost use Rattle.ieee.specs.Numbers.{zero};
 ghost use Rattle.slices.specs.Axes.{axisFrom, axesFrom};
-ghost use Rattle.slices.specs.Slices.{countsFrom, queryFrom, modeOf, slicesOf, querySlicesOf, lower};
+ghost use Rattle.slices.specs.Slices.{countsFrom, queryFrom, modeOf, namedBy, slicesOf, querySlicesOf, lower};
 use multicubic::Axis;
 use multicubic::EdgeMode;
 use multicubic::Outcome;
@@ -64,15 +65,24 @@ pub fn axes_from(counts: &[usize], starts: &[f64], steps: &[f64]) -> [Axis; 4]
     [a0, a1, a2, a3]
 }
 
-// The setting.
-pub fn mode_of(straight: bool) -> EdgeMode
-    ensures { λ r. ⌜ r ≡ modeOf straight ⌝ }
+// The setting of a number. A call with a number above 2 is refused, so it does not matter which setting that has.
+pub fn mode_of(mode: u8) -> EdgeMode
+    ensures { λ r. ⌜ r ≡ modeOf mode ⌝ }
 {
-    if straight {
-        EdgeMode::Straight
-    } else {
-        EdgeMode::Cubic
+    if mode == 0 {
+        return EdgeMode::Cubic;
     }
+    if mode == 1 {
+        return EdgeMode::Straight;
+    }
+    EdgeMode::Held
+}
+
+// A number above 2 names no setting, and is refused as a slice without entries is.
+pub fn named(mode: u8, shortest: usize) -> usize
+    ensures { λ r. ⌜ r ≡ namedBy mode shortest ⌝ }
+{
+    if 2 < mode { 0 } else { shortest }
 }
 
 // The lesser of two lengths.

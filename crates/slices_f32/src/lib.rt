@@ -1,5 +1,6 @@
 // f32: written by tools/width from crates/slices/src/lib.rt; what has no float is called there.
-// What slices of any length add to the calls: arrays gathered from them, and the refusals of those that are too short.
+// What slices of any length add to the calls: arrays gathered from them, and the refusals of those that are too short. The setting comes as a
+// number; one that names none is refused with them.
 ghost use mathlib.Core.Path.{_≡_};
 ghost use lib.ListN.{getD};
 ghost use Rattle.ieee.specs.Numbers.{zero};

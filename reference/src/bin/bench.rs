@@ -3,10 +3,14 @@
 //!   bench list                                    the names of the cases
 //!   bench [f32] once SIDE CASE [TIMES [QUERIES]]  one side (rust or ours) of one case, 10 times 10,000 queries, for callgrind
 //! Both sides run in one process, by turns, over the same queries. Each answer is compared before anything is timed.
+//! The cases are in cubic. Then the batches in held, ours alone, since the Rust does not have it, by turns with ours in cubic.
 //! At the end the ratios that are limited, three axes of 20: values at most 2.0 times the Rust's time, gradients 2.5. Exit code 1 where one is over.
 #[allow(dead_code)]
 #[path = "../cases.rs"]
 mod cases;
+#[allow(dead_code)]
+#[path = "../held.rs"]
+mod held;
 #[allow(dead_code)]
 #[path = "../original.rs"]
 mod original;
@@ -16,7 +20,8 @@ mod ours;
 #[allow(dead_code)]
 #[path = "../width.rs"]
 mod width;
-use cases::{Axis, Grid, Rng, product};
+use cases::{Axis, CUBIC, Grid, Rng, STRAIGHT, product};
+use held::{HELD, used};
 use interpn::multicubic::{MulticubicRectilinear, MulticubicRegular};
 use original::read;
 use ours::Calls;
@@ -34,8 +39,10 @@ enum Call {
     NewAndOne,
 }
 
+#[derive(Clone)]
 struct Case<T> {
     name: String,
+    axes: Vec<Axis<T>>,
     grid: Grid<T>,
     call: Call,
     columns: Vec<Vec<T>>,
@@ -96,7 +103,8 @@ fn cases<T: Calls>(queries: usize, outside: usize) -> Vec<Case<T>> {
                 };
                 list.push(Case {
                     name: format!("{kind}-{shape}-{what}"),
-                    grid: Grid::new(&axes, values.clone(), false),
+                    grid: Grid::new(&axes, values.clone(), CUBIC),
+                    axes: axes.clone(),
                     call,
                     joined: columns.concat(),
                     columns: columns.clone(),
@@ -108,6 +116,15 @@ fn cases<T: Calls>(queries: usize, outside: usize) -> Vec<Case<T>> {
 }
 
 impl<T: Calls> Case<T> {
+    /// The same in held, where it is a batch.
+    fn held(&self) -> Option<Case<T>> {
+        if !matches!(self.call, Call::Values | Call::Gradients) {
+            return None;
+        }
+        let mut held = Case { name: format!("{}-held", self.name), ..self.clone() };
+        held.grid.mode = HELD;
+        Some(held)
+    }
     fn queries(&self) -> usize {
         self.columns[0].len()
     }
@@ -132,7 +149,7 @@ impl<T: Calls> Case<T> {
                 if g.rectilinear {
                     let parts = g.cut();
                     let grids: &[&[T]; 3] = parts[..].try_into().unwrap();
-                    let new = || MulticubicRectilinear::<T, 3>::new(black_box(grids), &g.values, g.straight).unwrap();
+                    let new = || MulticubicRectilinear::<T, 3>::new(black_box(grids), &g.values, g.mode == STRAIGHT).unwrap();
                     let kept = new();
                     for (i, y) in out.iter_mut().enumerate() {
                         let x = black_box(query(i));
@@ -142,7 +159,7 @@ impl<T: Calls> Case<T> {
                     let dims: [usize; 3] = g.counts[..].try_into().unwrap();
                     let starts: [T; 3] = g.starts[..].try_into().unwrap();
                     let steps: [T; 3] = g.steps[..].try_into().unwrap();
-                    let new = || MulticubicRegular::<T, 3>::new(black_box(dims), starts, steps, &g.values, g.straight).unwrap();
+                    let new = || MulticubicRegular::<T, 3>::new(black_box(dims), starts, steps, &g.values, g.mode == STRAIGHT).unwrap();
                     let kept = new();
                     for (i, y) in out.iter_mut().enumerate() {
                         let x = black_box(query(i));
@@ -172,11 +189,13 @@ impl<T: Calls> Case<T> {
 fn once<T: Calls>(args: &[String]) {
     let number = |i: usize, default: usize| args.get(i).map_or(default, |a| a.parse().expect("a whole number"));
     let (times, queries) = (number(2, 10), number(3, 10_000));
-    let list = cases::<T>(queries, 0);
+    let mut list = cases::<T>(queries, 0);
+    list.extend(list.iter().filter_map(Case::held).collect::<Vec<_>>());
     let case = list.iter().find(|c| args.get(1) == Some(&c.name)).expect("a case of `bench list`");
     let mut out = case.buffer();
     for _ in 0..times {
         match args[0].as_str() {
+            "rust" if case.grid.mode == HELD => panic!("the Rust has no held"),
             "rust" => case.rust(black_box(&mut out)),
             "ours" => case.ours(black_box(&mut out)),
             _ => panic!("the side is rust or ours"),
@@ -229,6 +248,7 @@ fn all<T: Calls>(args: &[String]) {
             case.name, rust.0, rust.1, ours.0, ours.1, pairs[pairs.len() / 2], ours.1 / rust.1
         );
     }
+    held_batches::<T>(repeats, queries, outside);
     println!("\nlimits, the median ratio of {repeats} pairs:");
     for (name, ratio, limit) in &limited {
         println!("{name:37} {ratio:8.3} of {limit:.1}  {}", if ratio <= limit { "within" } else { "OVER" });
@@ -238,9 +258,51 @@ fn all<T: Calls>(args: &[String]) {
     }
 }
 
+/// The batches in held, by turns with ours in cubic. Before that the answers are looked at: they are the Rust's in cubic to the
+/// queries as they are used, but for the components of replaced axes, which are zeros.
+fn held_batches<T: Calls>(repeats: usize, queries: usize, outside: usize) {
+    println!("\nheld, ours alone, since the Rust does not have it; the ratio is that to ours in cubic, by turns");
+    println!("{:37} {:>9} {:>9} {:>10} {:>8}", "case", "median", "least", "median", "least");
+    for cubic in cases::<T>(queries, outside) {
+        let Some(held) = cubic.held() else { continue };
+        let (mut a, mut b) = (cubic.buffer(), cubic.buffer());
+        let mut asked = cubic.clone();
+        for (axis, column) in cubic.axes.iter().zip(&mut asked.columns) {
+            column.iter_mut().for_each(|x| *x = used(axis, *x));
+        }
+        asked.rust(&mut a);
+        held.ours(&mut b);
+        let replaced = |i: usize| asked.columns[i / queries][i % queries] != cubic.columns[i / queries][i % queries];
+        let gradients = cubic.call == Call::Gradients;
+        if let Some(i) = (0..a.len()).find(|&i| if gradients && replaced(i) { !b[i].is_zero() } else { !a[i].same(b[i]) }) {
+            println!("{}: entry {i} is {:e}, and not what was expected", held.name, b[i]);
+            std::process::exit(1);
+        }
+        let mut times = [vec![], vec![]];
+        for i in 0..repeats {
+            for turn in 0..2 {
+                let side = (i + turn) % 2;
+                let start = Instant::now();
+                if side == 0 { cubic.ours(black_box(&mut a)) } else { held.ours(black_box(&mut b)) }
+                times[side].push(start.elapsed().as_nanos() as f64 / queries as f64);
+            }
+        }
+        let mut pairs: Vec<f64> = times[0].iter().zip(&times[1]).map(|(cubic, held)| held / cubic).collect();
+        pairs.sort_by(f64::total_cmp);
+        let [cubic, ours] = times.map(|mut t| {
+            t.sort_by(f64::total_cmp);
+            (t[t.len() / 2], t[0])
+        });
+        println!("{:37} {:9.2} {:9.2} {:10.3} {:8.3}", held.name, ours.0, ours.1, pairs[pairs.len() / 2], ours.1 / cubic.1);
+    }
+}
+
 fn run<T: Calls>(args: &[String]) {
     match args.first().map(|a| a.as_str()) {
-        Some("list") => cases::<T>(1, 0).iter().for_each(|c| println!("{}", c.name)),
+        Some("list") => {
+            let list = cases::<T>(1, 0);
+            list.iter().cloned().chain(list.iter().filter_map(Case::held)).for_each(|c| println!("{}", c.name));
+        }
         Some("once") => once::<T>(&args[1..]),
         _ => all::<T>(args),
     }

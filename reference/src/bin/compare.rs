@@ -3,9 +3,14 @@
 //! Compared: numbers, query and axis of a refusal, places, values, gradients, batches, and every entry of every
 //! buffer, those that must stay as they were too. By their bits, except that any NaN answer matches any NaN.
 //! Left out, and counted: queries whose quotient is exactly -2^63 on some axis, where the two are meant to differ.
+//! Each grid is then asked in held too, which the Rust does not have: a check on us, and no reference, by what
+//! src/held.rs works out. Its draws are its own, so that those of cubic and straight are the same with it and without.
+//! Mode numbers that are none are ours alone as well: they are refused with 3, and 1 and 2 come first.
 //! Exit code 1 at the first difference, which is printed.
 #[path = "../cases.rs"]
 mod cases;
+#[path = "../held.rs"]
+mod held;
 #[path = "../original.rs"]
 mod original;
 #[path = "../ours.rs"]
@@ -13,9 +18,10 @@ mod ours;
 #[path = "../width.rs"]
 mod width;
 use cases::*;
+use held::HELD;
 use original::*;
 use ours::Calls;
-use std::collections::BTreeMap;
+use std::collections::{BTreeMap, BTreeSet};
 use std::time::Instant;
 use width::*;
 
@@ -85,15 +91,57 @@ fn outcome(call: &str, number: u8, refusal: &Lent<usize>, expected: (u8, usize, 
     if refusal.rest_kept(2) { Ok(()) } else { Err(format!("{call}: refusal written past its two entries")) }
 }
 
-/// One answer against the Rust's.
-fn answer<T: Width>(call: &str, i: usize, ours: &Lent<T>, at: usize, rust: T) -> Result<(), String> {
+/// One answer against the one expected.
+fn answer<T: Width>(call: &str, i: usize, ours: &Lent<T>, at: usize, expected: T) -> Result<(), String> {
     let got = ours.at(at);
-    if got.same(rust) && !ours.kept(at) {
+    if got.same(expected) && !ours.kept(at) {
         return Ok(());
     }
     let note = if ours.kept(at) { " (not written)" } else { "" };
     let digits = T::SIZE as usize / 4;
-    Err(format!("{call}: query {i}, entry {at}: {:0digits$x}{note}, the Rust {:0digits$x}", got.bits(), rust.bits()))
+    Err(format!("{call}: query {i}, entry {at}: {:0digits$x}{note}, expected {:0digits$x}", got.bits(), expected.bits()))
+}
+
+/// Queries by columns, as given to ours and as asked of the Rust. The two are the same, but in held a coordinate that is
+/// replaced is another number.
+struct Queries<T> {
+    given: Vec<Vec<T>>,
+    used: Vec<Vec<T>>,
+}
+impl<T: Width> Queries<T> {
+    fn len(&self) -> usize {
+        self.given[0].len()
+    }
+    fn given(&self, i: usize) -> Vec<T> {
+        self.given.iter().map(|column| column[i]).collect()
+    }
+    fn used(&self, i: usize) -> Vec<T> {
+        self.used.iter().map(|column| column[i]).collect()
+    }
+}
+
+/// What is expected of the gradient, from the Rust's at the query as it is used and its value there.
+fn expect<T: Width>(
+    g: &Grid<T>,
+    reader: &dyn Reader<T>,
+    given: &[T],
+    used: &[T],
+    value: T,
+    gradient: &mut [T],
+    k: &mut Counts,
+) -> Result<(), String> {
+    let replaced: Vec<bool> = given.iter().zip(used).map(|(x, y)| x.bits() != y.bits()).collect();
+    if !replaced.contains(&true) {
+        return Ok(());
+    }
+    assert_eq!(g.mode, HELD);
+    held::flatten(g, reader, used, &replaced, value, gradient)?;
+    for (&y, _) in gradient.iter().zip(&replaced).filter(|(_, replaced)| **replaced) {
+        let sort = if y.is_nan() { 2 } else { y.is_sign_negative() as usize };
+        assert!(y.is_nan() || y.is_zero());
+        k.flat[sort] += 1;
+    }
+    Ok(())
 }
 
 #[derive(Default)]
@@ -107,20 +155,40 @@ struct Counts {
     single: u64,
     lengths: u64,
     by: BTreeMap<String, u64>,
+    /// Held: components by a row of four +0 that came out as +0, -0, NaN.
+    flat: [u64; 3],
+    /// Calls with a mode number that is none, by the number of their refusal, and which mode numbers they were.
+    modes: BTreeMap<u8, u64>,
+    tried: BTreeSet<u8>,
+}
+
+impl Counts {
+    fn print(&self) {
+        println!("{:10} queries compared in {} batches", self.queries, self.batches);
+        println!("{:10} of them unplaceable", self.unplaceable);
+        println!("{:10} batches with an unplaceable query in the middle", self.stopped);
+        println!("{:10} answers that are NaN", self.nan);
+        println!("{:10} queries compared by the single calls too (get_loc, interp_one, interp_one_grad)", self.single);
+        println!("{:10} batches with a buffer of a wrong length", self.lengths);
+        println!("{:10} queries left out, their quotient being exactly -2^63", self.left_out);
+        for (what, count) in &self.by {
+            println!("{count:10} {what}");
+        }
+    }
 }
 
 /// The batch calls over queries from..to; gives the first unplaceable query of them.
 fn batch<T: Calls>(
     g: &Grid<T>,
     reader: &dyn Reader<T>,
-    columns: &[Vec<T>],
+    queries: &Queries<T>,
     from: usize,
     to: usize,
     k: &mut Counts,
 ) -> Result<Option<usize>, String> {
-    let (n, c) = (columns.len(), to - from);
-    let parts: Vec<&[T]> = columns.iter().map(|x| &x[from..to]).collect();
-    let joined: Vec<T> = parts.concat();
+    let (n, c) = (queries.given.len(), to - from);
+    let parts: Vec<&[T]> = queries.used.iter().map(|x| &x[from..to]).collect();
+    let joined: Vec<T> = queries.given.iter().flat_map(|x| &x[from..to]).copied().collect();
 
     let mut out: Vec<T> = (0..c).map(T::untouched).collect();
     let taken = reader.batch(&parts, &mut out);
@@ -143,6 +211,13 @@ fn batch<T: Calls>(
     let done = first.unwrap_or(c);
     if !agrees(taken) || (0..n * c).any(|i| (grad[i].bits() == T::untouched(i).bits()) != (i % c >= done)) {
         return Err("the Rust's batch of gradients is not what was assumed of it".into());
+    }
+    if g.mode == HELD {
+        for i in 0..done {
+            let mut gradient: Vec<T> = (0..n).map(|d| grad[d * c + i]).collect();
+            expect(g, reader, &queries.given(from + i), &queries.used(from + i), out[i], &mut gradient, k)?;
+            (0..n).for_each(|d| grad[d * c + i] = gradient[d]);
+        }
     }
 
     let mut refusal = wholes(4);
@@ -177,49 +252,60 @@ fn batch<T: Calls>(
     Ok(first)
 }
 
-/// The three single calls on one query.
-fn single<T: Calls>(g: &Grid<T>, reader: &dyn Reader<T>, x: &[T], k: &mut Counts) -> Result<(), String> {
+/// The three single calls on query i.
+fn single<T: Calls>(
+    g: &Grid<T>,
+    reader: &dyn Reader<T>,
+    queries: &Queries<T>,
+    i: usize,
+    k: &mut Counts,
+) -> Result<(), String> {
+    let (x, used) = (&queries.given(i)[..], &queries.used(i)[..]);
     let n = x.len();
-    let places: Vec<Option<(usize, u8)>> = (0..n).map(|d| reader.place(x[d], d)).collect();
+    let places: Vec<Option<(usize, u8)>> = (0..n).map(|d| reader.place(used[d], d)).collect();
     let bad = places.iter().position(|p| p.is_none());
     let expected = bad.map_or((0, 0, 0), |axis| (8, 0, axis));
-    let used = if bad.is_some() { 0 } else { n };
+    let written = if bad.is_some() { 0 } else { n };
 
     let (mut refusal, mut origins, mut classes) = (wholes(4), wholes(n + 2), bytes(n + 2));
     let number = T::get_loc(g, x, refusal.part(), origins.part(), classes.part());
     outcome("get_loc", number, &refusal, expected)?;
-    for d in 0..used {
-        let (ours, rust) = ((origins.at(d), classes.at(d)), places[d].unwrap());
-        if ours != rust {
-            return Err(format!("get_loc: axis {d}: {ours:?}, the Rust {rust:?}"));
+    for d in 0..written {
+        let (ours, expected) = ((origins.at(d), classes.at(d)), places[d].unwrap());
+        if ours != expected {
+            return Err(format!("get_loc: query {i}, axis {d}: {ours:?}, expected {expected:?}"));
         }
     }
-    if !origins.rest_kept(used) || !classes.rest_kept(used) {
+    if !origins.rest_kept(written) || !classes.rest_kept(written) {
         return Err("get_loc: an entry was written that must stay".into());
     }
 
     let (mut refusal, mut value) = (wholes(4), floats(3));
     let number = T::interp_one(g, x, refusal.part(), value.part());
     outcome("interp_one", number, &refusal, expected)?;
-    match reader.one(x) {
-        Ok(rust) => answer("interp_one", 0, &value, 0, rust)?,
+    let rust = reader.one(used);
+    match rust {
+        Ok(rust) => answer("interp_one", i, &value, 0, rust)?,
         Err(_) if bad.is_some() => {}
         Err(message) => return Err(format!("the Rust's interp_one refuses: {message}")),
     }
-    if !value.rest_kept(used.min(1)) {
+    if !value.rest_kept(written.min(1)) {
         return Err("interp_one: an entry was written that must stay".into());
     }
 
     let (mut refusal, mut gradient) = (wholes(4), floats(n + 2));
     let number = T::interp_one_grad(g, x, refusal.part(), gradient.part());
     outcome("interp_one_grad", number, &refusal, expected)?;
-    let mut rust = vec![T::zero(); n];
-    match reader.one_grad(x, &mut rust) {
-        Ok(()) => (0..n).try_for_each(|d| answer("interp_one_grad", 0, &gradient, d, rust[d]))?,
+    let mut slopes = vec![T::zero(); n];
+    match reader.one_grad(used, &mut slopes) {
+        Ok(()) => {
+            expect(g, reader, x, used, rust?, &mut slopes, k)?;
+            (0..n).try_for_each(|d| answer("interp_one_grad", i, &gradient, d, slopes[d]))?
+        }
         Err(_) if bad.is_some() => {}
         Err(message) => return Err(format!("the Rust's interp_one_grad refuses: {message}")),
     }
-    if !gradient.rest_kept(used) {
+    if !gradient.rest_kept(written) {
         return Err("interp_one_grad: an entry was written that must stay".into());
     }
     k.single += 1;
@@ -351,18 +437,227 @@ fn coordinate<T: Width>(r: &mut Rng, a: &Axis<T>, odd: usize) -> T {
     if r.one_in(6) { near_node(r, a) } else { any_class(r, a) }
 }
 
+/// The queries, asked of both sides in the grid's mode: in batches, and some of them singly.
+fn asked<T: Calls>(g: &Grid<T>, queries: &Queries<T>, r: &mut Rng, k: &mut Counts) -> Result<(), String> {
+    let size = queries.len();
+    let kind = if g.rectilinear { "rectilinear" } else { "regular" };
+    *k.by.entry(format!("queries, {kind}, axis count {}", g.counts.len())).or_default() += size as u64;
+    k.queries += size as u64;
+    read(g, |reader| -> Result<(), String> {
+        let reader = reader.map_err(|message| format!("the Rust refuses a grid meant to be taken: {message}"))?;
+        let mut refusal = wholes(4);
+        let number = T::new(g, refusal.part());
+        outcome("new", number, &refusal, (0, 0, 0))?;
+        let single = |i: usize, k: &mut Counts| {
+            single(g, reader, queries, i, k).map_err(|e| format!("{e}\nby a single call, query {i}, mode {}", g.mode))
+        };
+        // The whole batch; where it stops, what is left in smaller ones.
+        let (mut from, mut to) = (0, size);
+        loop {
+            let Some(q) = batch(g, reader, queries, from, to, k)? else {
+                if to == size {
+                    break;
+                }
+                (from, to) = (to, (to + 16).min(size));
+                continue;
+            };
+            k.unplaceable += 1;
+            single(from + q, k)?;
+            from += q + 1;
+            to = (from + 16).min(size);
+            if from == size {
+                break;
+            }
+        }
+        for i in 0..size.min(20) {
+            single(i, k)?;
+        }
+        if r.one_in(8) {
+            wrong_length(g, reader, &queries.given, r, k)?;
+        }
+        Ok(())
+    })
+    .map_err(|e| {
+        let named = e.split("query ").skip(1).find_map(|s| s.split(',').next()?.parse::<usize>().ok()).filter(|&i| i < size);
+        let x = named.map(|i| (queries.given(i), queries.used(i)));
+        format!("{e}\nquery as given and as used, where one is named: {x:?}\n{g:?}")
+    })
+}
+
+/// What is counted of the queries in held.
+const COUNTED: [&str; 11] = [
+    "queries with a replaced axis",
+    "queries without a replaced axis",
+    "coordinates not replaced",
+    "coordinates not replaced: at the first or the last node",
+    "coordinates not replaced: at such a node, as the other zero",
+    "coordinates not replaced: NaN",
+    "coordinates replaced by the first node",
+    "coordinates replaced by the last node",
+    "coordinates replaced: infinite",
+    "coordinates replaced: the float just beyond the node",
+    "coordinates replaced: unplaceable as given",
+];
+
+/// Queries to the same axes in held.
+fn held_queries<T: Width>(axes: &[Axis<T>], r: &mut Rng, k: &mut Counts) -> Queries<T> {
+    let size = if r.one_in(5) { r.below(12) } else { r.range(50, 1000) as usize };
+    let odd = r.pick(&[0, 0, 0, 10, 100, 1000]);
+    let mut queries = Queries { given: vec![vec![]; axes.len()], used: vec![vec![]; axes.len()] };
+    let mut counted = [0; COUNTED.len()];
+    for _ in 0..size {
+        let given: Vec<T> = axes.iter().map(|a| held::coordinate(r, a, odd)).collect();
+        let used: Vec<T> = axes.iter().zip(&given).map(|(a, &x)| held::used(a, x)).collect();
+        if axes.iter().zip(&used).any(|(a, &x)| a.apart(x)) {
+            k.left_out += 1;
+            continue;
+        }
+        let mut any = false;
+        for (d, a) in axes.iter().enumerate() {
+            let (x, ends) = (given[d], [a.node(0), a.node(a.n() - 1)]);
+            let replaced = x.bits() != used[d].bits();
+            any |= replaced;
+            // Whether it has no place as given.
+            let far = T::of(pow2(63));
+            let lost = match a {
+                Axis::Regular { start, step, .. } => !((x - *start) / *step >= -far && (x - *start) / *step < far),
+                Axis::Rectilinear(_) => false,
+            };
+            for (i, is) in [
+                !replaced,
+                ends.contains(&x),
+                ends.iter().any(|e| e.is_zero() && x.is_zero() && e.bits() != x.bits()),
+                x.is_nan(),
+                replaced && x < ends[0],
+                replaced && x > ends[1],
+                replaced && x.is_infinite(),
+                replaced && (x.up() == ends[0] || x.down() == ends[1]),
+                replaced && lost,
+            ]
+            .into_iter()
+            .enumerate()
+            {
+                counted[2 + i] += is as u64;
+            }
+        }
+        counted[!any as usize] += 1;
+        queries.given.iter_mut().zip(given).for_each(|(column, x)| column.push(x));
+        queries.used.iter_mut().zip(used).for_each(|(column, x)| column.push(x));
+    }
+    for (what, count) in COUNTED.iter().zip(counted) {
+        *k.by.entry(what.to_string()).or_default() += count;
+    }
+    queries
+}
+
+/// The five calls with mode numbers that are none, whatever else is wrong: 1 or 2 where they apply, else 3. Nothing is
+/// written but the refusal, and that only where it has room.
+fn no_mode<T: Calls>(g: &Grid<T>, modes: impl Iterator<Item = u8>, r: &mut Rng, k: &mut Counts) -> Result<(), String> {
+    let mut g = g.clone();
+    let n = g.counts.len();
+    let expected = if !(1..=4).contains(&n) {
+        1
+    } else if g.counts.iter().any(|&c| c > 4096) || g.counts.iter().map(|&c| c as u128).product::<u128>() > 1 << 20 {
+        2
+    } else {
+        3
+    };
+    for mode in modes {
+        g.mode = mode;
+        // Lengths that fit, or one too short or too long; and a refusal with room or without.
+        let mut len = |fit: usize| if r.one_in(4) { (fit + 1).saturating_sub(r.pick(&[0, 2])) } else { fit };
+        let c = len(3);
+        let x: Vec<T> = (0..len(n)).map(|i| T::of(i as f64)).collect();
+        let many: Vec<T> = (0..len(n * c)).map(|i| T::of(i as f64)).collect();
+        let (mut origins, mut classes) = (wholes(len(n)), bytes(len(n)));
+        let mut lent = [1, n, c, n * c].map(|fit| floats::<T>(len(fit)));
+        for call in 0..5 {
+            let mut refusal = wholes(r.pick(&[4, 4, 4, 2, 1, 0]));
+            let (name, number) = match call {
+                0 => ("get_loc", T::get_loc(&g, &x, refusal.part(), origins.part(), classes.part())),
+                1 => ("interp_one", T::interp_one(&g, &x, refusal.part(), lent[0].part())),
+                2 => ("interp_one_grad", T::interp_one_grad(&g, &x, refusal.part(), lent[1].part())),
+                3 => ("interp", T::interp(&g, &many, refusal.part(), lent[2].part())),
+                _ => ("interp_grad", T::interp_grad(&g, &many, refusal.part(), lent[3].part())),
+            };
+            let told = if refusal.len < 2 { 0 } else { 2 };
+            if number != expected || !refusal.rest_kept(told) || (0..told).any(|i| refusal.at(i) != 0) {
+                let refusal = refusal.part();
+                return Err(format!("{name}, mode {mode}: number {number}, expected {expected}; refusal {refusal:?}\n{g:?}"));
+            }
+            if !origins.rest_kept(0) || !classes.rest_kept(0) || lent.iter().any(|x| !x.rest_kept(0)) {
+                return Err(format!("{name}, mode {mode}: an entry was written on {number}\n{g:?}"));
+            }
+            *k.modes.entry(number).or_default() += 1;
+        }
+        k.tried.insert(mode);
+    }
+    Ok(())
+}
+
+/// Every mode number that is none, on grids that are taken and on grids that each check but 7 and 8 refuses.
+fn all_modes<T: Calls>(r: &mut Rng, k: &mut Counts) -> Result<(), String> {
+    for rectilinear in [false, true] {
+        let good = axis::<T>(r, rectilinear, "whole", 5);
+        let long = axis::<T>(r, rectilinear, "whole", 4097);
+        let wide = axis::<T>(r, rectilinear, "whole", 1025);
+        let short = axis::<T>(r, rectilinear, "whole", 3);
+        let still = match &good {
+            Axis::Regular { start, n, .. } => Axis::Regular { start: *start, step: T::zero(), n: *n },
+            Axis::Rectilinear(a) => Axis::Rectilinear(vec![a[0]; 5]),
+        };
+        let back = match &good {
+            Axis::Regular { .. } => good.clone(),
+            Axis::Rectilinear(a) => Axis::Rectilinear(vec![a[0], a[2], a[1], a[3], a[4]]),
+        };
+        let none = Grid { counts: vec![], ..Grid::new(&[good.clone()], vec![T::one(); 5], HELD) };
+        no_mode(&none, 3..=255, r, k)?;
+        for axes in [
+            vec![good.clone()],
+            vec![good.clone(); 2],
+            vec![good.clone(); 3],
+            vec![good.clone(); 4],
+            vec![good.clone(); 5],
+            vec![long.clone()],
+            vec![good.clone(), long],
+            vec![wide.clone(), wide],
+            vec![short, good.clone()],
+            vec![good.clone(), still],
+            vec![back, good],
+        ] {
+            // The values of the grids that are too large are not there.
+            let len = product(&axes).min(625);
+            no_mode(&Grid::new(&axes, values(r, "short", len), HELD), 3..=255, r, k)?;
+        }
+    }
+    Ok(())
+}
+
+/// The draws and counts of cubic and straight, and those of held.
+struct Run {
+    r: Rng,
+    k: Counts,
+    h: Rng,
+    held: Counts,
+}
+
 /// One random grid with its queries, and now and then a grid that is refused.
-fn round<T: Calls>(r: &mut Rng, k: &mut Counts) -> Result<(), String> {
+fn round<T: Calls>(run: &mut Run) -> Result<(), String> {
+    let Run { r, k, h, held } = run;
     if r.one_in(8) {
         let (rectilinear, many) = (r.coin(), r.pick(&[1, 2, 3, 4]));
-        let g = faulty::<T>(r, rectilinear, many, &mut |r| r.range(4, 7) as usize);
+        let mut g = faulty::<T>(r, rectilinear, many, &mut |r| r.range(4, 7) as usize);
         if let Some(message) = read(&g, |reader| reader.err()) {
             refused(&g, message, r, k).map_err(|e| format!("{e}\n{g:?}"))?;
+            g.mode = HELD;
+            refused(&g, message, h, held).map_err(|e| format!("{e}\n{g:?}"))?;
+            let mode = h.range(3, 255) as u8;
+            no_mode(&g, [mode].into_iter(), h, held)?;
         }
     }
     let axes = random_axes::<T>(r);
     let n = axes.len();
-    let g = Grid::new(&axes, any_values(r, product(&axes)), r.coin());
+    let mut g = Grid::new(&axes, any_values(r, product(&axes)), if r.coin() { STRAIGHT } else { CUBIC });
     let size = if r.one_in(5) { r.below(12) } else { r.range(50, 1000) as usize };
     let odd = r.pick(&[0, 0, 0, 10, 100, 1000]);
     let mut columns = vec![vec![]; n];
@@ -374,48 +669,48 @@ fn round<T: Calls>(r: &mut Rng, k: &mut Counts) -> Result<(), String> {
         }
         columns.iter_mut().zip(x).for_each(|(column, x)| column.push(x));
     }
-    let size = columns[0].len();
-    let kind = if g.rectilinear { "rectilinear" } else { "regular" };
-    *k.by.entry(format!("queries, {kind}, axis count {n}")).or_default() += size as u64;
-    k.queries += size as u64;
-    read(&g, |reader| -> Result<(), String> {
-        let reader = reader.map_err(|message| format!("the Rust refuses a grid meant to be taken: {message}"))?;
-        let mut refusal = wholes(4);
-        let number = T::new(&g, refusal.part());
-        outcome("new", number, &refusal, (0, 0, 0))?;
-        // The whole batch; where it stops, what is left in smaller ones.
-        let (mut from, mut to) = (0, size);
-        loop {
-            let Some(q) = batch(&g, reader, &columns, from, to, k)? else {
-                if to == size {
-                    break;
-                }
-                (from, to) = (to, (to + 16).min(size));
-                continue;
-            };
-            k.unplaceable += 1;
-            let x: Vec<T> = columns.iter().map(|column| column[from + q]).collect();
-            single(&g, reader, &x, k)?;
-            from += q + 1;
-            to = (from + 16).min(size);
-            if from == size {
-                break;
-            }
-        }
-        for i in 0..size.min(20) {
-            let x: Vec<T> = columns.iter().map(|column| column[i]).collect();
-            single(&g, reader, &x, k).map_err(|e| format!("{e}\nquery {x:?}"))?;
-        }
-        if r.one_in(8) {
-            wrong_length(&g, reader, &columns, r, k)?;
-        }
-        Ok(())
-    })
-    .map_err(|e| {
-        let named = e.split("query ").nth(1).and_then(|s| s.split(',').next()).and_then(|s| s.parse::<usize>().ok());
-        let x: Option<Vec<T>> = named.filter(|&i| i < size).map(|i| columns.iter().map(|column| column[i]).collect());
-        format!("{e}\nquery as numbers, where one is named: {x:?}\n{g:?}")
-    })
+    asked(&g, &Queries { given: columns.clone(), used: columns }, r, k)?;
+
+    g.mode = HELD;
+    // On values of one sign many components of replaced axes are -0.
+    if h.one_in(4) {
+        g.values.iter_mut().for_each(|v| *v = -v.abs());
+    }
+    let queries = held_queries(&axes, h, held);
+    asked(&g, &queries, h, held)?;
+    let mode = h.range(3, 255) as u8;
+    no_mode(&g, [mode].into_iter(), h, held)
+}
+
+/// Whether there was no difference.
+fn compare<T: Calls>(queries: u64, seed: u64) -> bool {
+    let start = Instant::now();
+    let seeded = seed.wrapping_mul(0x2545f4914f6cdd1d);
+    let mut run = Run { r: Rng(seeded), k: Counts::default(), h: Rng(!seeded), held: Counts::default() };
+    let mut grids = 0u64;
+    let mut difference = all_modes::<T>(&mut run.h, &mut run.held).err();
+    while run.k.queries < queries && difference.is_none() {
+        difference = round::<T>(&mut run).err();
+        grids += 1;
+    }
+    let Run { k, held, .. } = run;
+    println!("f{}, seed {seed}, {:.1} seconds", T::SIZE, start.elapsed().as_secs_f64());
+    println!("{grids:10} grids taken by both");
+    println!("cubic and straight, against the Rust");
+    k.print();
+    println!("held, which the Rust does not have: no reference, a check on us by its cubic answers to the replaced queries");
+    held.print();
+    let ([plus, minus, nan], all) = (held.flat, held.flat.iter().sum::<u64>());
+    println!("{all:10} components of a replaced axis, by a row of four +0: {plus} are +0, {minus} are -0, {nan} are NaN");
+    println!("mode numbers that are none, ours alone: {} of 253", held.tried.len());
+    for (number, count) in &held.modes {
+        println!("{count:10} calls refused with {number}");
+    }
+    match &difference {
+        None => println!("no difference"),
+        Some(difference) => println!("DIFFERENCE in grid {grids}: {difference}"),
+    }
+    difference.is_none()
 }
 
 fn main() {
@@ -426,32 +721,7 @@ fn main() {
         eprintln!("usage: compare [f32] QUERIES SEED");
         std::process::exit(2);
     };
-    let start = Instant::now();
-    let mut r = Rng(seed.wrapping_mul(0x2545f4914f6cdd1d));
-    let mut k = Counts::default();
-    let (mut grids, mut difference) = (0u64, None);
-    let round = if narrow { round::<f32> } else { round::<f64> };
-    while k.queries < queries && difference.is_none() {
-        difference = round(&mut r, &mut k).err();
-        grids += 1;
-    }
-    println!("{}, seed {seed}, {:.1} seconds", if narrow { "f32" } else { "f64" }, start.elapsed().as_secs_f64());
-    println!("{grids:10} grids taken by both");
-    println!("{:10} queries compared in {} batches", k.queries, k.batches);
-    println!("{:10} of them unplaceable on both sides", k.unplaceable);
-    println!("{:10} batches with an unplaceable query in the middle", k.stopped);
-    println!("{:10} answers that are NaN on both sides", k.nan);
-    println!("{:10} queries compared by the single calls too (get_loc, interp_one, interp_one_grad)", k.single);
-    println!("{:10} batches with a buffer of a wrong length", k.lengths);
-    println!("{:10} queries left out, their quotient being exactly -2^63", k.left_out);
-    for (what, count) in &k.by {
-        println!("{count:10} {what}");
-    }
-    match difference {
-        None => println!("no difference"),
-        Some(difference) => {
-            println!("DIFFERENCE in grid {grids}: {difference}");
-            std::process::exit(1);
-        }
+    if !(if narrow { compare::<f32> } else { compare::<f64> })(queries, seed) {
+        std::process::exit(1);
     }
 }

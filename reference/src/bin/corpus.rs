@@ -66,11 +66,11 @@ impl Corpus {
         assert!((1..=4).contains(&n) && g.values.len() <= 4096 && g.joined.len() <= 4096);
         self.groups += 1;
         self.count(format!("groups, {}, axis count {n}", KINDS[g.rectilinear as usize]));
-        self.count(format!("groups, {}", MODES[g.straight as usize]));
+        self.count(format!("groups, {}", MODES[g.mode as usize]));
         self.count(format!("topic {topic}: groups"));
         let four = |xs: &[u64]| (0..4).map(|i| xs.get(i).copied().unwrap_or(0)).collect::<Vec<u64>>();
         let raw = |xs: &[T]| xs.iter().map(|x| x.bits()).collect::<Vec<u64>>();
-        self.words.extend([g.rectilinear as u64, g.straight as u64, n as u64]);
+        self.words.extend([g.rectilinear as u64, g.mode as u64, n as u64]);
         self.words.extend(four(&g.counts.iter().map(|&n| n as u64).collect::<Vec<u64>>()));
         if g.rectilinear {
             self.words.push(g.joined.len() as u64);
@@ -84,11 +84,11 @@ impl Corpus {
     }
 
     /// A grid that `new` takes, and queries to it.
-    fn group<T: Width>(&mut self, topic: &str, axes: &[Axis<T>], straight: bool, values: Vec<T>, mut queries: Vec<Vec<T>>) {
+    fn group<T: Width>(&mut self, topic: &str, axes: &[Axis<T>], mode: u8, values: Vec<T>, mut queries: Vec<Vec<T>>) {
         let before = queries.len();
         queries.retain(|x| !axes.iter().zip(x).any(|(a, &x)| a.apart(x)));
         self.left_out += before - queries.len();
-        let g = Grid::new(axes, values, straight);
+        let g = Grid::new(axes, values, mode);
         let n = axes.len();
         let c = queries.len();
         assert!(c <= 64);
@@ -192,7 +192,7 @@ impl Corpus {
         self.words.push(1);
         for (d, p) in places.iter().enumerate() {
             let (origin, class) = p.unwrap();
-            *self.classes.entry((g.rectilinear as usize, g.straight as usize, n, d, class as usize)).or_default() += 1;
+            *self.classes.entry((g.rectilinear as usize, g.mode as usize, n, d, class as usize)).or_default() += 1;
             self.words.push(origin as u64 * 8 + class as u64);
         }
         self.words.push(bits(value));
@@ -274,23 +274,23 @@ fn make<T: Width>(r: &mut Rng, o: &mut Corpus) {
     let uneven = [Axis::Rectilinear(all(&[0.0, 1.0, 2.0, 4.0, 7.0]))];
     let cubes = [Axis::Regular { start: zero, step: one, n: 4 }];
     let single = |xs: &[f64]| xs.iter().map(|&x| vec![T::of(x)]).collect::<Vec<_>>();
-    for straight in [false, true] {
+    for mode in [CUBIC, STRAIGHT] {
         let v = values(r, "whole", 5);
-        o.group("marked", &five, straight, v, single(&[-0.5, 0.0, 1.0, 2.5, 3.0, 4.0, pow2(63)]));
+        o.group("marked", &five, mode, v, single(&[-0.5, 0.0, 1.0, 2.5, 3.0, 4.0, pow2(63)]));
         let v = values(r, "whole", 5);
-        o.group("marked", &uneven, straight, v, single(&[0.0, 1.0, 4.0, 7.0, 8.0]));
+        o.group("marked", &uneven, mode, v, single(&[0.0, 1.0, 4.0, 7.0, 8.0]));
         let mut queries = single(&[1.5, 4.0, -0.0]);
         queries.push(vec![either(-1e-300, -1e-37)]);
-        o.group("marked", &cubes, straight, all(&[0.0, 1.0, 8.0, 27.0]), queries);
-        o.group("marked", &cubes, straight, vec![T::NAN; 4], single(&[1.5, 4.0]));
-        o.group("marked", &uneven, straight, vec![one; 5], vec![]);
-        o.group("marked", &five, straight, vec![one; 5], vec![]);
+        o.group("marked", &cubes, mode, all(&[0.0, 1.0, 8.0, 27.0]), queries);
+        o.group("marked", &cubes, mode, vec![T::NAN; 4], single(&[1.5, 4.0]));
+        o.group("marked", &uneven, mode, vec![one; 5], vec![]);
+        o.group("marked", &five, mode, vec![one; 5], vec![]);
     }
 
     // Every class on every axis: all combinations on one to three axes, each at random on four.
     let ordinary = ["whole", "plain", "plain", "exact"];
     for rectilinear in [false, true] {
-        for straight in [false, true] {
+        for mode in [CUBIC, STRAIGHT] {
             for many in 1..=4usize {
                 let mut combos: Vec<usize> = (0..5usize.pow(many as u32)).collect();
                 for i in (1..combos.len()).rev() {
@@ -309,7 +309,7 @@ fn make<T: Width>(r: &mut Rng, o: &mut Corpus) {
                             (0..many).map(|d| of_class(r, &axes[d], class(d))).collect()
                         })
                         .collect();
-                    o.group("class", &axes, straight, v, queries);
+                    o.group("class", &axes, mode, v, queries);
                 }
             }
         }
@@ -321,7 +321,7 @@ fn make<T: Width>(r: &mut Rng, o: &mut Corpus) {
         let axes = grid::<T>(r, i % 2 == 1, &["exact", "exact", "whole", "plain", "wild"], many);
         let v = any_values(r, product(&axes));
         let queries = (0..10).map(|_| axes.iter().map(|a| near_node(r, a)).collect()).collect();
-        o.group("node", &axes, r.coin(), v, queries);
+        o.group("node", &axes, r.coin() as u8, v, queries);
     }
     // Zeros, infinities, NaN, subnormals and extremes as queries.
     for i in 0..80 {
@@ -340,7 +340,7 @@ fn make<T: Width>(r: &mut Rng, o: &mut Corpus) {
                 (0..many).map(|d| if d == odd || r.one_in(4) { special(r) } else { any_class(r, &axes[d]) }).collect()
             })
             .collect();
-        o.group("special", &axes, r.coin(), v, queries);
+        o.group("special", &axes, r.coin() as u8, v, queries);
     }
     // Huge, tiny and lost axes.
     for i in 0..100 {
@@ -356,7 +356,7 @@ fn make<T: Width>(r: &mut Rng, o: &mut Corpus) {
         let queries = (0..8)
             .map(|_| axes.iter().map(|a| if r.one_in(3) { near_node(r, a) } else { any_class(r, a) }).collect())
             .collect();
-        o.group("extreme", &axes, r.coin(), v, queries);
+        o.group("extreme", &axes, r.coin() as u8, v, queries);
     }
     // Quotients at the marks, some of them on one axis among ordinary others.
     for _ in 0..50 {
@@ -369,7 +369,7 @@ fn make<T: Width>(r: &mut Rng, o: &mut Corpus) {
                 (0..many).map(|d| if d == odd || r.one_in(6) { at_mark(r, &axes[d]) } else { any_class(r, &axes[d]) }).collect()
             })
             .collect();
-        o.group("quotient", &axes, r.coin(), v, queries);
+        o.group("quotient", &axes, r.coin() as u8, v, queries);
     }
     // Flat gaps.
     for _ in 0..60 {
@@ -379,7 +379,7 @@ fn make<T: Width>(r: &mut Rng, o: &mut Corpus) {
         let queries = (0..9)
             .map(|_| axes.iter().map(|a| if r.coin() { near_node(r, a) } else { any_class(r, a) }).collect())
             .collect();
-        o.group("flat", &axes, r.coin(), v, queries);
+        o.group("flat", &axes, r.coin() as u8, v, queries);
     }
     // NaN, infinities and extremes among the values; on axes of five to seven entries some blocks leave them out.
     for i in 0..80 {
@@ -401,7 +401,7 @@ fn make<T: Width>(r: &mut Rng, o: &mut Corpus) {
         let queries = (0..10)
             .map(|_| axes.iter().map(|a| if r.one_in(3) { near_node(r, a) } else { any_class(r, a) }).collect())
             .collect();
-        o.group("values", &axes, r.coin(), v, queries);
+        o.group("values", &axes, r.coin() as u8, v, queries);
     }
     // Floats by their bits: whatever comes.
     for i in 0..40 {
@@ -419,7 +419,7 @@ fn make<T: Width>(r: &mut Rng, o: &mut Corpus) {
                     .collect()
             })
             .collect();
-        o.group("bits", &axes, r.coin(), v, queries);
+        o.group("bits", &axes, r.coin() as u8, v, queries);
     }
     // The signs of zeros: a node at zero, queries at both zeros and beside them, values of zeros and ones.
     for i in 0..40 {
@@ -440,7 +440,7 @@ fn make<T: Width>(r: &mut Rng, o: &mut Corpus) {
         let v = (0..product(&axes)).map(|_| T::of(r.pick(&[0.0, -0.0, 1.0, -1.0]))).collect();
         let (minus, small) = (T::of(-0.0), either::<T>(1e-320, 1e-40));
         let queries = (0..6).map(|_| (0..many).map(|_| r.pick(&[zero, minus, minus, -small, small])).collect()).collect();
-        o.group("zeros", &axes, r.coin(), v, queries);
+        o.group("zeros", &axes, r.coin() as u8, v, queries);
     }
     // Batches that stop: an unplaceable query among good ones, at the beginning, in the middle, at the end, or two.
     for i in 0..50 {
@@ -458,16 +458,16 @@ fn make<T: Width>(r: &mut Rng, o: &mut Corpus) {
                 }
             }
         }
-        o.group("stopped", &axes, r.coin(), v, queries);
+        o.group("stopped", &axes, r.coin() as u8, v, queries);
     }
     // Grids that `new` refuses: first the orders that are easily missed, then faults at random.
     let regular = |axes: &[(f64, usize)], len: usize| {
         let axes: Vec<Axis<T>> = axes.iter().map(|&(step, n)| Axis::Regular { start: zero, step: T::of(step), n }).collect();
-        Grid::new(&axes, vec![one; len], false)
+        Grid::new(&axes, vec![one; len], CUBIC)
     };
     let rectilinear = |axes: &[&[f64]], len: usize| {
         let axes: Vec<Axis<T>> = axes.iter().map(|a| Axis::Rectilinear(all(a))).collect();
-        Grid::new(&axes, vec![one; len], false)
+        Grid::new(&axes, vec![one; len], CUBIC)
     };
     let good: &[f64] = &[0.0, 1.0, 2.0, 3.0];
     for g in [
@@ -500,15 +500,15 @@ fn make<T: Width>(r: &mut Rng, o: &mut Corpus) {
         let v = values(r, "whole", product(&axes));
         let mut queries: Vec<Vec<T>> = (0..30).map(|_| vec![any_class(r, &axes[0])]).collect();
         queries.extend((0..30).map(|_| vec![near_node(r, &axes[0])]));
-        o.group("long", &axes, rectilinear, v, queries);
+        o.group("long", &axes, rectilinear as u8, v, queries);
     }
     // All NaN, the values and the queries, of either sign: refused on regular axes, answered on rectilinear ones.
-    for straight in [false, true] {
+    for mode in [CUBIC, STRAIGHT] {
         for many in 1..=2 {
             let v = values(r, "nan", 4usize.pow(many as u32));
             let queries = vec![vec![T::NAN; many], vec![-T::NAN; many]];
-            o.group("all NaN", &vec![cubes[0].clone(); many], straight, v.clone(), queries.clone());
-            o.group("all NaN", &vec![Axis::Rectilinear(all(good)); many], straight, v, queries);
+            o.group("all NaN", &vec![cubes[0].clone(); many], mode, v.clone(), queries.clone());
+            o.group("all NaN", &vec![Axis::Rectilinear(all(good)); many], mode, v, queries);
         }
     }
 }

@@ -2,7 +2,7 @@
 use denote.Ref.{now}
 use lib.Ieee.{binary64}
 use Rattle.rectilinear_lent.specs.Rectilinear.{rectilinearFrom}
-use Rattle.rectilinear_lent.proofs.Gathering.{lent-to}
+use Rattle.rectilinear_lent.proofs.Gathering.{lent-in}
 use Rattle.capi.proofs.Laws.{new-leaves}
 use Rattle.capi.proofs.veltzuma_rectilinear_new.Statement.{statement}
 use Rattle.capi.proofs.veltzuma_rectilinear_new.Tie as tie
@@ -10,7 +10,7 @@ use Rattle.capi.proofs.veltzuma_rectilinear_new.Tie as tie
 told : tie.Need-returns
 told c = λ mode.
     let a = c .before .before .before .before .before .before .before .before .before .before .before .args in
-    let lent = lent-to binary64 (a .axis-count) (now (a .counts)) (now (a .axes)) (now (a .vals)) mode (c .before .before .before .before .before .counts-from .ensures) _ (c .before .before .before .before .before .before .check-slices .ensures) in
+    let lent = lent-in binary64 (a .axis-count) (now (a .counts)) (now (a .axes)) (now (a .vals)) (c .before .before .before .before .before .counts-from .ensures) mode _ (c .before .before .before .before .before .before .check-slices .ensures) in
     new-leaves (rectilinearFrom binary64 (a .axis-count) (now (a .counts)) (now (a .axes)) (now (a .vals)) mode) (now (a .refusal)) lent (c .before .before .tell .ensures .0) (c .before .before .tell .ensures .1) (c .before .before .before .before .new .ensures)
 
 pub veltzuma-rectilinear-new-spec : {M : Type 1} → statement M

@@ -1,7 +1,7 @@
 -- The value is told and written.
 use denote.Ref.{now}
 use lib.Ieee.{binary64}
-use Rattle.slices.specs.Slices.{modeOf}
+use Rattle.slices.specs.Lent.{setBy}
 use Rattle.regular_lent.specs.Regular.{regularFrom}
 use Rattle.regular_lent.proofs.Gathering.{lent-to-query}
 use Rattle.capi.proofs.Laws.{interp-one-leaves}
@@ -10,9 +10,9 @@ use Rattle.capi.proofs.veltzuma_regular_interp_one.Tie as tie
 
 told : tie.Need-returns
 told c =
-    let a = c .before .before .before .before .before .before .before .before .before .before .before .before .before .before .before .before .before .before .before .args in
-    let lent = lent-to-query binary64 (a .axis-count) (now (a .counts)) (now (a .starts)) (now (a .steps)) (now (a .vals)) (modeOf (a .straight)) (c .before .before .before .before .before .before .before .before .before .before .before .shortest-of .ensures) (c .before .before .before .before .before .before .before .before .before .axes-from .ensures) _ _ _ _ (c .before .before .before .before .before .before .before .before .before .before .check-query-slices .ensures) in
-    interp-one-leaves (regularFrom binary64 (a .axis-count) (now (a .counts)) (now (a .starts)) (now (a .steps)) (now (a .vals)) (modeOf (a .straight))) (now (a .x)) (now (a .refusal)) (c .before .before .before .before .before .before .before .before .query-from .ensures) binary64 (now (a .value)) lent (c .before .before .before .before .tell-value .ensures) (c .before .before .before .before .before .before .before .interp-one .ensures)
+    let a = c .before .before .before .before .before .before .before .before .before .before .before .before .before .before .before .before .before .before .before .before .before .args in
+    let lent = lent-to-query binary64 (a .axis-count) (now (a .counts)) (now (a .starts)) (now (a .steps)) (now (a .vals)) (c .before .before .before .before .before .before .before .before .before .before .axes-from .ensures) (a .mode) (c .before .before .before .before .before .before .before .before .mode-of .ensures) (c .before .before .before .before .before .before .before .before .before .before .before .before .named .ensures) (c .before .before .before .before .before .before .before .before .before .before .before .before .before .shortest-of .ensures) _ _ _ _ (c .before .before .before .before .before .before .before .before .before .before .before .check-query-slices .ensures) in
+    interp-one-leaves (setBy (regularFrom binary64 (a .axis-count) (now (a .counts)) (now (a .starts)) (now (a .steps)) (now (a .vals))) (a .mode)) (now (a .x)) (now (a .refusal)) (c .before .before .before .before .before .before .before .before .before .query-from .ensures) binary64 (now (a .value)) lent (c .before .before .before .before .tell-value .ensures) (c .before .before .before .before .before .before .before .interp-one .ensures)
 
 pub veltzuma-regular-interp-one-spec : {M : Type 1} → statement M
-veltzuma-regular-interp-one-spec = tie.close (tie.spec (λ c κs. tt) (λ c κs. tt) (λ c κs. tt) (λ c κs. tt) (λ c κs. tt) (λ c κs. tt) (λ c. c .before .before .before .before .tell-value .kept .1 .0) (λ c. c .before .before .before .before .tell-value .kept .1 .1 .0) told)
+veltzuma-regular-interp-one-spec = tie.close (tie.spec (λ c κs. tt) (λ c κs. tt) (λ c κs. tt) (λ c κs. tt) (λ c κs. tt) (λ c κs. tt) (λ c κs. tt) (λ c κs. tt) (λ c. c .before .before .before .before .tell-value .kept .1 .0) (λ c. c .before .before .before .before .tell-value .kept .1 .1 .0) told)

@@ -1,6 +1,7 @@
 -- The place is told and written.
 use denote.Ref.{now}
 use lib.Ieee.{binary32}
+use Rattle.slices.specs.Lent.{setBy}
 use Rattle.rectilinear_lent.specs.Rectilinear.{rectilinearFrom}
 use Rattle.rectilinear_lent.proofs.Gathering.{lent-to-query}
 use Rattle.capi.proofs.Laws.{get-loc-leaves}
@@ -9,10 +10,10 @@ use Rattle.capi_f32.proofs.veltzuma_rectilinear_get_loc_f32.Tie as tie
 
 told : tie.Need-returns
 unfolding rectilinearFrom
-told c = λ mode.
-    let a = c .before .before .before .before .before .before .before .before .before .before .before .before .before .before .before .before .before .before .before .before .before .before .args in
-    let lent = lent-to-query binary32 (a .axis-count) (now (a .counts)) (now (a .axes)) (now (a .vals)) mode (c .before .before .before .before .before .before .before .before .before .before .before .before .counts-from .ensures) _ _ _ _ (c .before .before .before .before .before .before .before .before .before .before .before .before .before .check-query-slices .ensures) in
-    get-loc-leaves (rectilinearFrom binary32 (a .axis-count) (now (a .counts)) (now (a .axes)) (now (a .vals)) mode) (now (a .x)) (now (a .refusal)) (c .before .before .before .before .before .before .before .before .before .before .before .query-from .ensures) (now (a .origins)) (now (a .classes)) (c .before .before .before .before .before .before .before .before .before .before .before .before .before .before .least .ensures) lent (c .before .before .before .before .before .before .tell-places .ensures) (c .before .before .before .before .before .before .before .before .before .before .get-loc .ensures mode)
+told c =
+    let a = c .before .before .before .before .before .before .before .before .before .before .before .before .before .before .before .before .before .before .before .before .before .before .before .before .args in
+    let lent = lent-to-query binary32 (a .axis-count) (now (a .counts)) (now (a .axes)) (now (a .vals)) (c .before .before .before .before .before .before .before .before .before .before .before .before .before .counts-from .ensures) (a .mode) (c .before .before .before .before .before .before .before .before .before .before .before .mode-of .ensures) (c .before .before .before .before .before .before .before .before .before .before .before .before .before .before .before .before .named .ensures) _ _ _ _ (c .before .before .before .before .before .before .before .before .before .before .before .before .before .before .check-query-slices .ensures) in
+    get-loc-leaves (setBy (rectilinearFrom binary32 (a .axis-count) (now (a .counts)) (now (a .axes)) (now (a .vals))) (a .mode)) (now (a .x)) (now (a .refusal)) (c .before .before .before .before .before .before .before .before .before .before .before .before .query-from .ensures) (now (a .origins)) (now (a .classes)) (c .before .before .before .before .before .before .before .before .before .before .before .before .before .before .before .least .ensures) lent (c .before .before .before .before .before .before .tell-places .ensures) (c .before .before .before .before .before .before .before .before .before .before .get-loc .ensures)
 
 pub veltzuma-rectilinear-get-loc-f32-spec : {M : Type 1} → statement M
-veltzuma-rectilinear-get-loc-f32-spec = tie.close (tie.spec (λ c κs. tt) (λ c κs. tt) (λ c κs. tt) (λ c κs. tt) (λ c κs. tt) (λ c κs. tt) (λ c. c .before .before .before .before .before .before .tell-places .kept .1 .1 .0) (λ c. c .before .before .before .before .before .before .tell-places .kept .1 .1 .1 .0) (λ c. c .before .before .before .before .before .before .tell-places .kept .1 .1 .1 .1 .0) told)
+veltzuma-rectilinear-get-loc-f32-spec = tie.close (tie.spec (λ c κs. tt) (λ c κs. tt) (λ c κs. tt) (λ c κs. tt) (λ c κs. tt) (λ c κs. tt) (λ c κs. tt) (λ c κs. tt) (λ c. c .before .before .before .before .before .before .tell-places .kept .1 .1 .0) (λ c. c .before .before .before .before .before .before .tell-places .kept .1 .1 .1 .0) (λ c. c .before .before .before .before .before .before .tell-places .kept .1 .1 .1 .1 .0) told)

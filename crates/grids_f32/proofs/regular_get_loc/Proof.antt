@@ -3,7 +3,7 @@ use mathlib.Core.Path.{refl}
 use lib.Ieee.{binary32}
 use Rattle.grids.proofs.Kept.{proved}
 use Rattle.grids.proofs.Query.{query-meets}
-use Rattle.grids_f32.proofs.Regular.{regular-sizes}
+use Rattle.grids_f32.proofs.Regular.{regular}
 use Rattle.grids_f32.proofs.Results.{places}
 use Rattle.regular_f32.proofs.get_loc as step
 use Rattle.regular_f32.proofs.get_loc.Symbol as step-def
@@ -19,6 +19,6 @@ unfolding code.routine
 regular-get-loc-spec 𝓤 H 𝓜 𝓖 𝓡 =
     proved 𝓤 H 𝓜 𝓖 𝓡 code.env next.signature step.signature (next.spec 𝓤 H (𝓖 .A) (𝓜 .mem) (𝓡 .run)) (step.spec 𝓤 H (𝓖 .A) (𝓜 .mem) (𝓡 .run))
     #next #step code.function step-def.routine (code.unfolded 𝓤 H 𝓜 𝓡) code.calls-regular-f32·get-loc (step-thm.met 𝓤 H 𝓜 𝓖 𝓡)
-    (λ W 𝓣. query-meets binary32 𝓤 H (𝓖 .A) W 1 (regular-sizes 1 tt 𝓤 H (𝓖 .A) W) (places 𝓤 H (𝓖 .A) W)
+    (λ W 𝓣. query-meets binary32 𝓤 H (𝓖 .A) W 1 (regular 1 tt 𝓤 H (𝓖 .A) W) (places 𝓤 H (𝓖 .A) W)
     (λ κs a r e. step.clauses 𝓤 H (𝓖 .A) (𝓜 .mem) (𝓡 .run) κs a .ensures tt r e) (λ κs a r e. next.clauses 𝓤 H (𝓖 .A) (𝓜 .mem) (𝓡 .run) κs a .ensures tt r e)
     (λ κs d e r ws. refl) #step 𝓣 code.function (λ κs d e. (refl, refl)))

@@ -16,28 +16,28 @@ use Rattle.rectilinear.proofs.gradient_at.Statement.{statement}
 use Rattle.rectilinear.proofs.gradient_at.Tie as tie
 
 abbrev Inv-loop : tie.InvT-loop
-Inv-loop axis-count counts axes vals linearize-extrapolation strides x gradient₀ d₀ gradient d =
+Inv-loop axis-count counts axes vals mode strides x gradient₀ d₀ gradient d =
     (d ≤ axis-count)
     × (axis-count ≤ 4)
     × (length counts ≡ 4)
     × (length x ≡ 4)
     × Ready axis-count counts axes (length vals) strides
-    × Grading binary64 (axesIn binary64 linearize-extrapolation axis-count counts axes) vals x d gradient
+    × Grading binary64 (axesIn binary64 mode axis-count counts axes) vals x d gradient
 
 abbrev μ-loop : tie.MeasureT-loop
-μ-loop axis-count counts axes vals linearize-extrapolation strides x gradient₀ d₀ gradient d = axis-count - d
+μ-loop axis-count counts axes vals mode strides x gradient₀ d₀ gradient d = axis-count - d
 
 -- what holds at the loop's head: the grid's axes fit
 module _ (c : tie.At-loop Inv-loop μ-loop) where
-  fits : Fit (c .before .before .before .args .axis-count) (axesIn binary64 (c .before .before .before .args .linearize-extrapolation) (c .before .before .before .args .axis-count) (c .before .before .before .args .counts) (now (c .before .before .before .args .axes))) (length (now (c .before .before .before .args .vals)))
-  fits = fit binary64 (c .before .before .before .args .linearize-extrapolation) (c .loop .inv .2) (taken-of (c .loop .inv .4))
+  fits : Fit (c .before .before .before .args .axis-count) (axesIn binary64 (c .before .before .before .args .mode) (c .before .before .before .args .axis-count) (c .before .before .before .args .counts) (now (c .before .before .before .args .axes))) (length (now (c .before .before .before .args .vals)))
+  fits = fit binary64 (c .before .before .before .args .mode) (c .loop .inv .2) (taken-of (c .loop .inv .4))
 
 loop-holds : tie.Need-loop-holds Inv-loop μ-loop
 unfolding ofBits
 loop-holds c =
     let s = c .before .before in
     let four = s .good .1 .0 .1 .0 .1 in
-    let f = fit binary64 (s .args .linearize-extrapolation) four (taken-of (s .pre)) in
+    let f = fit binary64 (s .args .mode) four (taken-of (s .pre)) in
     (search needs, f .few, four, s .good .1 .1 .1 .1 .1 .1 .0 .1 .0 .1, s .pre, grading-none _ _ _ _ _ refl)
 
 answer-at-requires : tie.Need-answer-at-requires Inv-loop μ-loop

@@ -20,14 +20,14 @@ check-values-requires c κs =
 
 strides-requires : tie.Need-strides-requires
 strides-requires c κs =
-    let a = c .before .before .before .before .before .before .before .before .before .args in
-    let checks = value-checked binary64 (gridOf binary64 (a .axis-count) (a .counts) (now (a .axes)) (now (a .vals)) (a .mode)) (now (a .queries)) (now (a .out)) _ _ (c .before .before .before .before .new .ensures .0) (c .before .before .before .check-values .ensures) ∙ c .before .enum-told2 .given .1 in
+    let a = c .before .before .before .before .before .before .before .before .args in
+    let checks = value-checked binary64 (gridOf binary64 (a .axis-count) (a .counts) (now (a .axes)) (now (a .vals)) (a .mode)) (now (a .queries)) (now (a .out)) _ _ (c .before .before .before .new .ensures .0) (c .before .before .check-values .ensures) ∙ c .enum-told2 .given .1 in
     spaceable (a .axis-count) (a .counts) (now (a .axes)) (length (now (a .vals))) (then-accepted _ _ checks .0)
 
 fill-requires : tie.Need-fill-requires
 fill-requires c κs =
-    let a = c .before .before .before .before .before .before .before .before .before .before .before .args in
-    let checks = value-checked binary64 (gridOf binary64 (a .axis-count) (a .counts) (now (a .axes)) (now (a .vals)) (a .mode)) (now (a .queries)) (now (a .out)) _ _ (c .before .before .before .before .before .before .new .ensures .0) (c .before .before .before .before .before .check-values .ensures) ∙ c .before .before .before .enum-told2 .given .1 in
+    let a = c .before .before .before .before .before .before .before .before .before .before .args in
+    let checks = value-checked binary64 (gridOf binary64 (a .axis-count) (a .counts) (now (a .axes)) (now (a .vals)) (a .mode)) (now (a .queries)) (now (a .out)) _ _ (c .before .before .before .before .before .new .ensures .0) (c .before .before .before .before .check-values .ensures) ∙ c .before .before .enum-told2 .given .1 in
     (ready-by (a .axis-count) (a .counts) (now (a .axes)) (length (now (a .vals))) (then-accepted _ _ checks .0) _ (c .before .strides .ensures), (interp-lengths binary64 (gridOf binary64 (a .axis-count) (a .counts) (now (a .axes)) (now (a .vals)) (a .mode)) (now (a .queries)) (now (a .out)) checks, tt))
 
 returns : tie.Need-returns
@@ -38,12 +38,11 @@ returns c =
 
 returns-2 : tie.Need-returns-2
 returns-2 c =
-    let a = c .before .before .before .before .before .before .before .before .before .before .before .before .before .before .args in
-    let checks = value-checked binary64 (gridOf binary64 (a .axis-count) (a .counts) (now (a .axes)) (now (a .vals)) (a .mode)) (now (a .queries)) (now (a .out)) _ _ (c .before .before .before .before .before .before .before .before .before .new .ensures .0) (c .before .before .before .before .before .before .before .before .check-values .ensures) ∙ c .before .before .before .before .before .before .enum-told2 .given .1 in
-    let e = c .before .before .before .before .before .linearize-extrapolation .ensures in
+    let a = c .before .before .before .before .before .before .before .before .before .before .before .before .before .args in
+    let checks = value-checked binary64 (gridOf binary64 (a .axis-count) (a .counts) (now (a .axes)) (now (a .vals)) (a .mode)) (now (a .queries)) (now (a .out)) _ _ (c .before .before .before .before .before .before .before .before .new .ensures .0) (c .before .before .before .before .before .before .before .check-values .ensures) ∙ c .before .before .before .before .before .enum-told2 .given .1 in
     let w = c .before .before .fill .ensures in
-    let outcome : _ ≡ interpOutcome binary64 (gridOf binary64 (a .axis-count) (a .counts) (now (a .axes)) (now (a .vals)) (a .mode)) (now (a .queries)) (now (a .out)) = w .0 ∙ rw e (sym (interp-answers binary64 (gridOf binary64 (a .axis-count) (a .counts) (now (a .axes)) (now (a .vals)) (a .mode)) (now (a .queries)) (now (a .out)) checks)) in
-    (outcome, (w .1 ∙ rw e (sym (interp-runs binary64 (gridOf binary64 (a .axis-count) (a .counts) (now (a .axes)) (now (a .vals)) (a .mode)) (now (a .queries)) (now (a .out)) checks)), says outcome))
+    let outcome : _ ≡ interpOutcome binary64 (gridOf binary64 (a .axis-count) (a .counts) (now (a .axes)) (now (a .vals)) (a .mode)) (now (a .queries)) (now (a .out)) = w .0 ∙ sym (interp-answers binary64 (gridOf binary64 (a .axis-count) (a .counts) (now (a .axes)) (now (a .vals)) (a .mode)) (now (a .queries)) (now (a .out)) checks) in
+    (outcome, (w .1 ∙ sym (interp-runs binary64 (gridOf binary64 (a .axis-count) (a .counts) (now (a .axes)) (now (a .vals)) (a .mode)) (now (a .queries)) (now (a .out)) checks), says outcome))
 
 pub interp-spec : {M : Type 1} → statement M
 interp-spec =
@@ -53,7 +52,6 @@ interp-spec =
     check-values-requires
     (λ c. search needs)
     (λ c. search needs)
-    (λ c κs. search needs)
     strides-requires
     fill-requires
     returns

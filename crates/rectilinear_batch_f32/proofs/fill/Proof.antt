@@ -12,15 +12,15 @@ use Rattle.rectilinear_batch_f32.proofs.fill.Statement.{statement}
 use Rattle.rectilinear_batch_f32.proofs.fill.Tie as tie
 
 abbrev Inv-loop : tie.InvT-loop
-Inv-loop axis-count counts axes vals linearize-extrapolation strides queries quantity out₀ count i₀ out i =
+Inv-loop axis-count counts axes vals mode strides queries quantity out₀ count i₀ out i =
     (i ≤ count)
     × (count ≡ length out₀)
     × (length out ≡ count)
     × (length queries ≡ axis-count * count)
-    × Filling binary32 (axesIn binary32 linearize-extrapolation axis-count counts axes) vals queries quantity count out₀ i out
+    × Filling binary32 (axesIn binary32 mode axis-count counts axes) vals queries quantity count out₀ i out
 
 abbrev μ-loop : tie.MeasureT-loop
-μ-loop axis-count counts axes vals linearize-extrapolation strides queries quantity out₀ count i₀ out i = count - i
+μ-loop axis-count counts axes vals mode strides queries quantity out₀ count i₀ out i = count - i
 
 loop-holds : tie.Need-loop-holds Inv-loop μ-loop
 loop-holds c = (omega arith, refl, refl, c .before .before .before .before .pre .1 .0, filling-none _ _ _ _ _ _ _)

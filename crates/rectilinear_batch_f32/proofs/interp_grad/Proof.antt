@@ -4,7 +4,6 @@ use native.Mathlib.Omega.{arith}
 use lib.ListN.{length}
 use lib.Ieee.{binary32}
 use denote.Ref.{now}
-use Rattle.multicubic.specs.Place.{straightOf}
 use Rattle.multicubic.proofs.Passed.{then-accepted}
 use Rattle.multicubic.proofs.Said.{says, both-say}
 use Rattle.grid.specs.Batch.{gradOutcome}
@@ -24,20 +23,20 @@ check-gradients-requires c κs =
 
 strides-requires : tie.Need-strides-requires
 strides-requires c κs =
-    let a = c .before .before .before .before .before .before .before .before .before .args in
-    let checks = gradient-checked binary32 (gridOf binary32 (a .axis-count) (a .counts) (now (a .axes)) (now (a .vals)) (a .mode)) (now (a .queries)) (now (a .out)) _ _ (c .before .before .before .before .new .ensures .0) (c .before .before .before .check-gradients .ensures) ∙ c .before .enum-told2 .given .1 in
+    let a = c .before .before .before .before .before .before .before .before .args in
+    let checks = gradient-checked binary32 (gridOf binary32 (a .axis-count) (a .counts) (now (a .axes)) (now (a .vals)) (a .mode)) (now (a .queries)) (now (a .out)) _ _ (c .before .before .before .new .ensures .0) (c .before .before .check-gradients .ensures) ∙ c .enum-told2 .given .1 in
     spaceable (a .axis-count) (a .counts) (now (a .axes)) (length (now (a .vals))) (then-accepted _ _ checks .0)
 
 div-fill-columns : tie.Need-div-fill-columns
 div-fill-columns c =
-    let a = c .before .before .before .before .before .before .before .before .before .before .args in
-    let checks = gradient-checked binary32 (gridOf binary32 (a .axis-count) (a .counts) (now (a .axes)) (now (a .vals)) (a .mode)) (now (a .queries)) (now (a .out)) _ _ (c .before .before .before .before .before .new .ensures .0) (c .before .before .before .before .check-gradients .ensures) ∙ c .before .before .enum-told2 .given .1 in
+    let a = c .before .before .before .before .before .before .before .before .before .args in
+    let checks = gradient-checked binary32 (gridOf binary32 (a .axis-count) (a .counts) (now (a .axes)) (now (a .vals)) (a .mode)) (now (a .queries)) (now (a .out)) _ _ (c .before .before .before .before .new .ensures .0) (c .before .before .before .check-gradients .ensures) ∙ c .before .enum-told2 .given .1 in
     omega (arith, passed (a .axis-count) (a .counts) (now (a .axes)) (length (now (a .vals))) (then-accepted _ _ checks .0) .some)
 
 fill-columns-requires : tie.Need-fill-columns-requires
 fill-columns-requires c κs =
-    let a = c .before .before .before .before .before .before .before .before .before .before .before .args in
-    let checks = gradient-checked binary32 (gridOf binary32 (a .axis-count) (a .counts) (now (a .axes)) (now (a .vals)) (a .mode)) (now (a .queries)) (now (a .out)) _ _ (c .before .before .before .before .before .before .new .ensures .0) (c .before .before .before .before .before .check-gradients .ensures) ∙ c .before .before .before .enum-told2 .given .1 in
+    let a = c .before .before .before .before .before .before .before .before .before .before .args in
+    let checks = gradient-checked binary32 (gridOf binary32 (a .axis-count) (a .counts) (now (a .axes)) (now (a .vals)) (a .mode)) (now (a .queries)) (now (a .out)) _ _ (c .before .before .before .before .before .new .ensures .0) (c .before .before .before .before .check-gradients .ensures) ∙ c .before .before .enum-told2 .given .1 in
     (ready-by (a .axis-count) (a .counts) (now (a .axes)) (length (now (a .vals))) (then-accepted _ _ checks .0) _ (c .before .strides .ensures), grad-lengths binary32 (gridOf binary32 (a .axis-count) (a .counts) (now (a .axes)) (now (a .vals)) (a .mode)) (now (a .queries)) (now (a .out)) checks)
 
 returns : tie.Need-returns
@@ -48,13 +47,12 @@ returns c =
 
 returns-2 : tie.Need-returns-2
 returns-2 c =
-    let a = c .before .before .before .before .before .before .before .before .before .before .before .before .before .before .args in
-    let checks = gradient-checked binary32 (gridOf binary32 (a .axis-count) (a .counts) (now (a .axes)) (now (a .vals)) (a .mode)) (now (a .queries)) (now (a .out)) _ _ (c .before .before .before .before .before .before .before .before .before .new .ensures .0) (c .before .before .before .before .before .before .before .before .check-gradients .ensures) ∙ c .before .before .before .before .before .before .enum-told2 .given .1 in
-    let f = fit binary32 (straightOf (a .mode)) (c .before .before .before .before .before .before .before .before .before .before .before .before .before .before .good .1 .0 .1 .0 .1) (record { values = length (now (a .vals)); checked = then-accepted _ _ checks .0 }) in
-    let e = c .before .before .before .before .before .linearize-extrapolation .ensures in
+    let a = c .before .before .before .before .before .before .before .before .before .before .before .before .before .args in
+    let checks = gradient-checked binary32 (gridOf binary32 (a .axis-count) (a .counts) (now (a .axes)) (now (a .vals)) (a .mode)) (now (a .queries)) (now (a .out)) _ _ (c .before .before .before .before .before .before .before .before .new .ensures .0) (c .before .before .before .before .before .before .before .check-gradients .ensures) ∙ c .before .before .before .before .before .enum-told2 .given .1 in
+    let f = fit binary32 (a .mode) (c .before .before .before .before .before .before .before .before .before .before .before .before .before .good .1 .0 .1 .0 .1) (record { values = length (now (a .vals)); checked = then-accepted _ _ checks .0 }) in
     let w = c .before .before .fill-columns .ensures in
-    let outcome : _ ≡ gradOutcome binary32 (gridOf binary32 (a .axis-count) (a .counts) (now (a .axes)) (now (a .vals)) (a .mode)) (now (a .queries)) (now (a .out)) = w .0 ∙ rw e (sym (grad-answers binary32 (gridOf binary32 (a .axis-count) (a .counts) (now (a .axes)) (now (a .vals)) (a .mode)) (now (a .queries)) (now (a .out)) checks)) in
-    (outcome, (columns-are binary32 (gridOf binary32 (a .axis-count) (a .counts) (now (a .axes)) (now (a .vals)) (a .mode)) (now (a .queries)) (now (a .out)) _ (f .counted) (f .some) checks (rw (← e) (w .1)), says outcome))
+    let outcome : _ ≡ gradOutcome binary32 (gridOf binary32 (a .axis-count) (a .counts) (now (a .axes)) (now (a .vals)) (a .mode)) (now (a .queries)) (now (a .out)) = w .0 ∙ sym (grad-answers binary32 (gridOf binary32 (a .axis-count) (a .counts) (now (a .axes)) (now (a .vals)) (a .mode)) (now (a .queries)) (now (a .out)) checks) in
+    (outcome, (columns-are binary32 (gridOf binary32 (a .axis-count) (a .counts) (now (a .axes)) (now (a .vals)) (a .mode)) (now (a .queries)) (now (a .out)) _ (f .counted) (f .some) checks (w .1), says outcome))
 
 pub interp-grad-spec : {M : Type 1} → statement M
 interp-grad-spec =
@@ -64,7 +62,6 @@ interp-grad-spec =
     check-gradients-requires
     (λ c. search needs)
     (λ c. search needs)
-    (λ c κs. search needs)
     strides-requires
     div-fill-columns
     fill-columns-requires

@@ -13,13 +13,13 @@ use Rattle.rectilinear_f32.proofs.interp_one_grad.Tie as tie
 
 strides-requires : tie.Need-strides-requires
 strides-requires c κs =
-    let a = c .before .before .before .before .before .before .args in
-    spaceable (a .axis-count) (a .counts) (now (a .axes)) (length (now (a .vals))) (sym (c .before .before .before .new .ensures .0) ∙ c .before .enum-told2 .given .1)
+    let a = c .before .before .before .before .before .args in
+    spaceable (a .axis-count) (a .counts) (now (a .axes)) (length (now (a .vals))) (sym (c .before .before .new .ensures .0) ∙ c .enum-told2 .given .1)
 
 gradient-at-requires : tie.Need-gradient-at-requires
 gradient-at-requires c κs =
-    let a = c .before .before .before .before .before .before .before .args in
-    ready-by (a .axis-count) (a .counts) (now (a .axes)) (length (now (a .vals))) (sym (c .before .before .before .before .new .ensures .0) ∙ c .before .before .enum-told2 .given .1) _ (c .strides .ensures)
+    let a = c .before .before .before .before .before .before .args in
+    ready-by (a .axis-count) (a .counts) (now (a .axes)) (length (now (a .vals))) (sym (c .before .before .before .new .ensures .0) ∙ c .before .enum-told2 .given .1) _ (c .strides .ensures)
 
 returns : tie.Need-returns
 unfolding ofBits
@@ -30,10 +30,9 @@ returns c =
 
 returns-2 : tie.Need-returns-2
 returns-2 c =
-    let a = c .before .before .before .before .before .before .before .before .args in
+    let a = c .before .before .before .before .before .before .before .args in
     let w = c .gradient-at .ensures in
-    let e = c .before .before .linearize-extrapolation .ensures in
-    both-say (gradient-single binary32 (gridOf binary32 (a .axis-count) (a .counts) (now (a .axes)) (now (a .vals)) (a .mode)) (a .x) _ _ (sym (c .before .before .before .before .before .new .ensures .0) ∙ c .before .before .before .enum-told2 .given .1) (w .0 ∙ rw e) (w .1 ∙ rw e))
+    both-say (gradient-single binary32 (gridOf binary32 (a .axis-count) (a .counts) (now (a .axes)) (now (a .vals)) (a .mode)) (a .x) _ _ (sym (c .before .before .before .before .new .ensures .0) ∙ c .before .before .enum-told2 .given .1) (w .0) (w .1))
 
 pub interp-one-grad-spec : {M : Type 1} → statement M
 interp-one-grad-spec =
@@ -42,7 +41,6 @@ interp-one-grad-spec =
     (λ c κs. search needs)
     (λ c. search needs)
     (λ c. search needs)
-    (λ c κs. search needs)
     strides-requires
     gradient-at-requires
     returns

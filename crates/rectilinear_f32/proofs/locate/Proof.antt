@@ -1,17 +1,19 @@
 -- `locate`: each turn keeps one place more.
 use Prim.Native.Nat.{_+_, _≤_, _<_, _-_}
 use mathlib.Core.Path.{_≡_, _∙_, sym, refl, ap}
-use mathlib.Core.Bool.{Bool, true}
+use mathlib.Core.Bool.{Bool}
+use mathlib.Core.List.{List}
 use native.Mathlib.Omega.{arith}
 use lib.ListN.{length, getD, take, length-set}
-use lib.Ieee.{nan, binary32}
+use lib.Ieee.{Float, nan, binary32}
 use denote.Ref.{now}
 use Rattle.multicubic.specs.declared.Loc.{Loc}
 use Rattle.multicubic.specs.Grid.{sum}
 use Rattle.grid.specs.Query.{at, GridAxis}
 use Rattle.grid.specs.Internal.{noAxis as noGridAxis}
+use Rattle.grid.proofs.Edges.{own-loc}
 use Rattle.grid.proofs.Locating.{Placing, placing-none, placing-turn, placing-all, so-far-unplaceable}
-use Rattle.rectilinear_query.specs.Grid.{gridAxis, axesIn}
+use Rattle.rectilinear_query.specs.Grid.{gridAxis, axisIn, axesIn}
 use Rattle.rectilinear_query.specs.Internal.{Taken}
 use Rattle.rectilinear_query.proofs.Locating.{fit, sum-next, ends-within, part, long-at, sound-at, axis-is}
 use borrow.Author.Needs.{needs}
@@ -19,7 +21,7 @@ use Rattle.rectilinear_f32.proofs.locate.Statement.{statement}
 use Rattle.rectilinear_f32.proofs.locate.Tie as tie
 
 abbrev Inv-loop : tie.InvT-loop
-Inv-loop axis-count axes counts x places₀ start₀ i₀ places start i =
+Inv-loop axis-count axes mode counts x places₀ start₀ i₀ places start i =
     (i ≤ axis-count)
     × (axis-count ≤ 4)
     × (length counts ≡ 4)
@@ -27,62 +29,95 @@ Inv-loop axis-count axes counts x places₀ start₀ i₀ places start i =
     × (length places ≡ 4)
     × Taken axis-count counts axes
     × (start ≡ sum (take i counts))
-    × ((straight : Bool) → Placing (axesIn binary32 straight axis-count counts axes) (at x) i places)
+    × Placing (axesIn binary32 mode axis-count counts axes) (at x) i places
 
 abbrev μ-loop : tie.MeasureT-loop
-μ-loop axis-count axes counts x places₀ start₀ i₀ places start i = axis-count - i
+μ-loop axis-count axes mode counts x places₀ start₀ i₀ places start i = axis-count - i
 
 -- the axis in hand is the grid's
-module _ (c : tie.At-loop Inv-loop μ-loop) (h : c .loop .i < c .before .before .before .args .axis-count) (straight : Bool) where
-  inside : c .loop .i < length (axesIn binary32 straight (c .before .before .before .args .axis-count) (c .before .before .before .args .t2) (now (c .before .before .before .args .axes)))
-  inside = rw (fit binary32 straight (c .loop .inv .2) (c .loop .inv .5) .counted) h
+module _ (c : tie.At-loop Inv-loop μ-loop) where
+  abbrev given : Float
+  given = getD (c .before .before .before .args .t5) (c .loop .i) nan
 
-  ends : c .loop .start + getD (c .before .before .before .args .t2) (c .loop .i) 0 ≤ length (now (c .before .before .before .args .axes))
-  ends = ends-within binary32 straight (c .loop .inv .2) (c .loop .inv .5) (c .loop .i) h (c .loop .start) (c .loop .inv .6)
+  module _ (h : c .loop .i < c .before .before .before .args .axis-count) where
+    inside : c .loop .i < length (axesIn binary32 (c .before .before .before .args .mode) (c .before .before .before .args .axis-count) (c .before .before .before .args .t2) (now (c .before .before .before .args .axes)))
+    inside = rw (fit binary32 (c .before .before .before .args .mode) (c .loop .inv .2) (c .loop .inv .5) .counted) h
 
-  loc-is : (l : Loc) → l ≡ gridAxis binary32 straight (part binary32 straight (c .loop .inv .2) (c .loop .inv .5) (c .loop .i) h (c .loop .start) (c .loop .inv .6)) .loc (getD (c .before .before .before .args .t4) (c .loop .i) nan) → l ≡ getD (axesIn binary32 straight (c .before .before .before .args .axis-count) (c .before .before .before .args .t2) (now (c .before .before .before .args .axes))) (c .loop .i) noGridAxis .loc (at (c .before .before .before .args .t4) (c .loop .i))
-  loc-is l e = e ∙ ap (λ (g : GridAxis). g .loc (getD (c .before .before .before .args .t4) (c .loop .i) nan)) (axis-is binary32 straight (c .loop .inv .2) (c .loop .inv .5) (c .loop .i) h (c .loop .start) (c .loop .inv .6))
+    ends : c .loop .start + getD (c .before .before .before .args .t2) (c .loop .i) 0 ≤ length (now (c .before .before .before .args .axes))
+    ends = ends-within binary32 (c .before .before .before .args .mode) (c .loop .inv .2) (c .loop .inv .5) (c .loop .i) h (c .loop .start) (c .loop .inv .6)
+
+    abbrev entries : List Float
+    entries = part binary32 (c .before .before .before .args .mode) (c .loop .inv .2) (c .loop .inv .5) (c .loop .i) h (c .loop .start) (c .loop .inv .6)
+
+    long : 4 ≤ length entries
+    long = long-at binary32 (c .before .before .before .args .mode) (c .loop .inv .2) (c .loop .inv .5) (c .loop .i) h (c .loop .start) (c .loop .inv .6)
+
+    abbrev line : Bool → GridAxis
+    line straight = gridAxis binary32 straight entries
+
+    loc-is : (l : Loc) → l ≡ axisIn binary32 (c .before .before .before .args .mode) entries .loc given → l ≡ getD (axesIn binary32 (c .before .before .before .args .mode) (c .before .before .before .args .axis-count) (c .before .before .before .args .t2) (now (c .before .before .before .args .axes))) (c .loop .i) noGridAxis .loc (at (c .before .before .before .args .t5) (c .loop .i))
+    loc-is l e = e ∙ ap (λ (g : GridAxis). g .loc given) (axis-is binary32 (c .before .before .before .args .mode) (c .loop .inv .2) (c .loop .inv .5) (c .loop .i) h (c .loop .start) (c .loop .inv .6))
 
 loop-holds : tie.Need-loop-holds Inv-loop μ-loop
 loop-holds c =
     let s = c .before .before in
     let e = c .nowhere .ensures in
     let four = s .good .1 .0 .1 .0 .1 in
-    (search needs, fit binary32 true four (s .pre) .few, four, s .good .1 .1 .1 .0 .1 .0 .1, ap length e, s .pre, refl, λ straight. placing-none _ _ _ e)
+    (search needs, fit binary32 (s .args .mode) four (s .pre) .few, four, s .good .1 .1 .1 .1 .0 .1 .0 .1, ap length e, s .pre, refl, placing-none _ _ _ e)
 
 add-end : tie.Need-add-end Inv-loop μ-loop
-add-end c = omega (arith, ends (c .before) (c .loop-test .taken) true, c .before .before .before .before .good)
+add-end c = omega (arith, ends (c .before) (c .loop-test .taken), c .before .before .before .before .good)
+
+mul-replaced-at : tie.Need-mul-replaced-at Inv-loop μ-loop
+mul-replaced-at c = omega (arith, ends (c .before) (c .loop-test .taken), c .before .before .before .before .good)
+
+part-replaced-at-end : tie.Need-part-replaced-at-end Inv-loop μ-loop
+part-replaced-at-end c = ends (c .before) (c .loop-test .taken)
+
+replaced-at-requires : tie.Need-replaced-at-requires Inv-loop μ-loop
+replaced-at-requires c κs = long (c .before .before) (c .before .loop-test .taken)
+
+mul-hold : tie.Need-mul-hold Inv-loop μ-loop
+mul-hold c = omega (arith, ends (c .before .before .before) (c .before .before .loop-test .taken), c .before .before .before .before .before .before .good)
+
+part-hold-end : tie.Need-part-hold-end Inv-loop μ-loop
+part-hold-end c = ends (c .before .before .before) (c .before .before .loop-test .taken)
+
+hold-requires : tie.Need-hold-requires Inv-loop μ-loop
+hold-requires c κs = long (c .before .before .before .before) (c .before .before .before .loop-test .taken)
 
 mul-get-loc : tie.Need-mul-get-loc Inv-loop μ-loop
-mul-get-loc c = omega (arith, ends (c .before) (c .loop-test .taken) true, c .before .before .before .before .good)
+mul-get-loc c = omega (arith, ends (c .before .before .before .before .before) (c .before .before .before .before .loop-test .taken), c .before .before .before .before .before .before .before .before .good)
 
 part-get-loc-end : tie.Need-part-get-loc-end Inv-loop μ-loop
-part-get-loc-end c = ends (c .before) (c .loop-test .taken) true
+part-get-loc-end c = ends (c .before .before .before .before .before) (c .before .before .before .before .loop-test .taken)
 
 get-loc-requires : tie.Need-get-loc-requires Inv-loop μ-loop
 get-loc-requires c κs =
-    let l = c .before .before in
-    (long-at binary32 true (l .loop .inv .2) (l .loop .inv .5) (l .loop .i) (c .before .loop-test .taken) (l .loop .start) (l .loop .inv .6), sound-at binary32 true (l .loop .inv .2) (l .loop .inv .5) (l .loop .i) (c .before .loop-test .taken) (l .loop .start) (l .loop .inv .6))
+    let l = c .before .before .before .before .before .before in
+    let h = c .before .before .before .before .before .loop-test .taken in
+    (long l h, sound-at binary32 (l .before .before .before .args .mode) (l .loop .inv .2) (l .loop .inv .5) (l .loop .i) h (l .loop .start) (l .loop .inv .6))
 
 returns : tie.Need-returns Inv-loop μ-loop
-returns c straight =
-    let l = c .before .before .before .before .before .before .before in
-    let h = c .before .before .before .before .before .before .loop-test .taken in
-    let e = so-far-unplaceable _ _ (l .loop .i) (l .loop .inv .7 straight .so-far) (inside l h straight) (loc-is l h straight _ (sym (c .before .before .enum-told .given .1) ∙ c .before .before .before .before .get-loc .ensures .0)) in
+returns c =
+    let l = c .before .before .before .before .before .before .before .before .before .before .before in
+    let h = c .before .before .before .before .before .before .before .before .before .before .loop-test .taken in
+    let loc = own-loc (l .before .before .before .args .mode) (line l h) (given l) _ _ (c .before .before .before .before .before .before .before .before .replaced-at .ensures) (c .before .before .before .before .before .before .hold .ensures) _ (sym (c .before .before .enum-told .given .1) ∙ c .before .before .before .before .get-loc .ensures .0) in
+    let e = so-far-unplaceable _ _ (l .loop .i) (l .loop .inv .7 .so-far) (inside l h) (loc-is l h _ loc) in
     (c .before .refused-query .ensures ∙ rw e refl, c .nowhere2 .ensures ∙ rw e refl)
 
 loop-again : tie.Need-loop-again Inv-loop μ-loop
 loop-again c =
-    let l = c .before .before .before .before .before .before in
-    let h = c .before .before .before .before .before .loop-test .taken in
-    let loc = sym (c .before .loc .given .1) ∙ c .before .before .before .get-loc .ensures .0 in
-    (omega arith, l .loop .inv .1, l .loop .inv .2, l .loop .inv .3, rw length-set (l .loop .inv .4), l .loop .inv .5, omega (arith, l .loop .inv .6, sum-next (l .before .before .before .args .t2) (l .loop .i)), λ straight. placing-turn _ _ _ (l .loop .i) (l .loop .inv .7 straight) (inside l h straight) (omega arith) _ (loc-is l h straight _ loc))
+    let l = c .before .before .before .before .before .before .before .before .before .before in
+    let h = c .before .before .before .before .before .before .before .before .before .loop-test .taken in
+    let loc = own-loc (l .before .before .before .args .mode) (line l h) (given l) _ _ (c .before .before .before .before .before .before .before .replaced-at .ensures) (c .before .before .before .before .before .hold .ensures) _ (sym (c .before .loc .given .1) ∙ c .before .before .before .get-loc .ensures .0) in
+    (omega arith, l .loop .inv .1, l .loop .inv .2, l .loop .inv .3, rw length-set (l .loop .inv .4), l .loop .inv .5, omega (arith, l .loop .inv .6, sum-next (l .before .before .before .args .t2) (l .loop .i)), placing-turn _ _ _ (l .loop .i) (l .loop .inv .7) (inside l h) (omega arith) _ (loc-is l h _ loc))
 
 returns-2 : tie.Need-returns-2 Inv-loop μ-loop
-returns-2 c straight =
+returns-2 c =
     let l = c .before in
-    let e : l .loop .i ≡ c .before .before .before .before .args .axis-count = omega arith in
-    placing-all _ _ _ (l .loop .i) (l .loop .inv .7 straight) (e ∙ sym (fit binary32 straight (l .loop .inv .2) (l .loop .inv .5) .counted)) 0
+    let e : l .loop .i ≡ l .before .before .before .args .axis-count = omega arith in
+    placing-all _ _ _ (l .loop .i) (l .loop .inv .7) (e ∙ sym (fit binary32 (l .before .before .before .args .mode) (l .loop .inv .2) (l .loop .inv .5) .counted)) 0
 
 pub locate-spec : {M : Type 1} → statement M
 locate-spec =
@@ -95,12 +130,22 @@ locate-spec =
     (λ c. omega arith)
     (λ c. omega arith)
     add-end
+    (λ c. omega arith)
+    (λ c. omega arith)
+    mul-replaced-at
+    (λ c. omega arith)
+    (λ c. omega arith)
+    part-replaced-at-end
+    replaced-at-requires
+    mul-hold
+    (λ c. omega arith)
+    (λ c. omega arith)
+    part-hold-end
+    hold-requires
     mul-get-loc
     (λ c. omega arith)
     (λ c. omega arith)
     part-get-loc-end
-    (λ c. omega arith)
-    (λ c. omega arith)
     get-loc-requires
     (λ c. search needs)
     (λ c. search needs)

@@ -2,8 +2,7 @@
 use mathlib.Core.Path.{refl, sym, _∙_}
 use lib.Ieee.{binary64}
 use denote.Ref.{now}
-use Rattle.multicubic.specs.Place.{straightOf}
-use Rattle.multicubic.proofs.Said.{says}
+use Rattle.multicubic.proofs.Said.{both-say}
 use Rattle.grid.specs.Query.{at}
 use Rattle.grid.proofs.Locating.{place-found}
 use Rattle.regular_query.specs.Grid.{gridOf}
@@ -17,13 +16,13 @@ locate-requires c κs = record { values = _; checked = sym (c .before .before .n
 returns : tie.Need-returns
 returns c =
     let told = sym (c .before .before .before .new .ensures .0) ∙ c .before .enum-told .given .1 in
-    (λ mode. rw (told, c .before .enum-told .given .1) refl, (λ mode. c .nowhere .ensures ∙ rw told refl, λ mode. rw (told, c .before .enum-told .given .1) (refl, refl, refl)))
+    both-say (rw (told, c .before .enum-told .given .1) refl, c .nowhere .ensures ∙ rw told refl)
 
 returns-2 : tie.Need-returns-2
 returns-2 c =
     let a = c .before .before .before .before .before .args in
     let taken = sym (c .before .before .before .new .ensures .0) ∙ c .before .enum-told2 .given .1 in
-    (λ mode. place-found (gridOf binary64 (a .axis-count) (a .axes) (now (a .vals)) mode) (at (a .x)) _ taken (c .locate .ensures (straightOf mode)) .0, (λ mode. place-found (gridOf binary64 (a .axis-count) (a .axes) (now (a .vals)) mode) (at (a .x)) _ taken (c .locate .ensures (straightOf mode)) .1, λ mode. says (place-found (gridOf binary64 (a .axis-count) (a .axes) (now (a .vals)) mode) (at (a .x)) _ taken (c .locate .ensures (straightOf mode)) .0)))
+    both-say (place-found (gridOf binary64 (a .axis-count) (a .axes) (now (a .vals)) (a .mode)) (at (a .x)) _ taken (c .locate .ensures))
 
 pub get-loc-spec : {M : Type 1} → statement M
 get-loc-spec = tie.close (tie.spec (λ c κs. search needs) (λ c. search needs) (λ c κs. search needs) (λ c. search needs) locate-requires returns returns-2)

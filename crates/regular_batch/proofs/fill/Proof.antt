@@ -12,15 +12,15 @@ use Rattle.regular_batch.proofs.fill.Statement.{statement}
 use Rattle.regular_batch.proofs.fill.Tie as tie
 
 abbrev Inv-loop : tie.InvT-loop
-Inv-loop axis-count axes vals linearize-extrapolation strides queries quantity out₀ count i₀ out i =
+Inv-loop axis-count axes vals mode strides queries quantity out₀ count i₀ out i =
     (i ≤ count)
     × (count ≡ length out₀)
     × (length out ≡ count)
     × (length queries ≡ axis-count * count)
-    × Filling binary64 (axesIn binary64 linearize-extrapolation axis-count axes) vals queries quantity count out₀ i out
+    × Filling binary64 (axesIn binary64 mode axis-count axes) vals queries quantity count out₀ i out
 
 abbrev μ-loop : tie.MeasureT-loop
-μ-loop axis-count axes vals linearize-extrapolation strides queries quantity out₀ count i₀ out i = count - i
+μ-loop axis-count axes vals mode strides queries quantity out₀ count i₀ out i = count - i
 
 loop-holds : tie.Need-loop-holds Inv-loop μ-loop
 loop-holds c = (omega arith, refl, refl, c .before .before .before .pre .1 .0, filling-none _ _ _ _ _ _ _)

@@ -11,12 +11,12 @@ use Rattle.regular_batch_f32.proofs.fill_columns.Statement.{statement}
 use Rattle.regular_batch_f32.proofs.fill_columns.Tie as tie
 
 abbrev Inv-loop : tie.InvT-loop
-Inv-loop axis-count axes vals linearize-extrapolation strides queries count out₀ outcome₀ d₀ out outcome d =
+Inv-loop axis-count axes vals mode strides queries count out₀ outcome₀ d₀ out outcome d =
     (length out ≡ length out₀)
-    × Columns binary32 (axesIn binary32 linearize-extrapolation axis-count axes) vals queries axis-count count out₀ d outcome out
+    × Columns binary32 (axesIn binary32 mode axis-count axes) vals queries axis-count count out₀ d outcome out
 
 abbrev μ-loop : tie.MeasureT-loop
-μ-loop axis-count axes vals linearize-extrapolation strides queries count out₀ outcome₀ d₀ out outcome d = axis-count - d
+μ-loop axis-count axes vals mode strides queries count out₀ outcome₀ d₀ out outcome d = axis-count - d
 
 loop-holds : tie.Need-loop-holds Inv-loop μ-loop
 loop-holds c = (refl, columns-start _ _ _ _ _ _ _ _ (c .before .before .before .pre .1 .1))
@@ -50,7 +50,7 @@ same-length c = c .before .loop .inv .0
 returns : tie.Need-returns Inv-loop μ-loop
 returns c =
     let s = c .before .before .before .before .before in
-    columns-end (c .before .loop .inv .1) (fit binary32 (s .args .linearize-extrapolation) (s .good .1 .0 .1 .0 .1) (taken-of (s .pre .0)) .some) (c .loop-test .left)
+    columns-end (c .before .loop .inv .1) (fit binary32 (s .args .mode) (s .good .1 .0 .1 .0 .1) (taken-of (s .pre .0)) .some) (c .loop-test .left)
 
 pub fill-columns-spec : {M : Type 1} → statement M
 fill-columns-spec =

@@ -13,13 +13,13 @@ use Rattle.regular_f32.proofs.interp_one.Tie as tie
 
 strides-requires : tie.Need-strides-requires
 strides-requires c κs =
-    let a = c .before .before .before .before .before .before .args in
-    spaceable (a .axis-count) (a .axes) (length (now (a .vals))) (sym (c .before .before .before .before .new .ensures .0) ∙ c .before .before .enum-told2 .given .1) _ (c .counts-of .ensures)
+    let a = c .before .before .before .before .before .args in
+    spaceable (a .axis-count) (a .axes) (length (now (a .vals))) (sym (c .before .before .before .new .ensures .0) ∙ c .before .enum-told2 .given .1) _ (c .counts-of .ensures)
 
 answer-at-requires : tie.Need-answer-at-requires
 answer-at-requires c κs =
-    let a = c .before .before .before .before .before .before .before .before .args in
-    let taken = sym (c .before .before .before .before .before .before .new .ensures .0) ∙ c .before .before .before .before .enum-told2 .given .1 in
+    let a = c .before .before .before .before .before .before .before .args in
+    let taken = sym (c .before .before .before .before .before .new .ensures .0) ∙ c .before .before .before .enum-told2 .given .1 in
     let few = spaceable (a .axis-count) (a .axes) (length (now (a .vals))) taken _ (c .before .before .counts-of .ensures) .0 in
     (ready-by (a .axis-count) (a .axes) (length (now (a .vals))) taken _ (c .before .before .counts-of .ensures) _ (c .before .strides .ensures), ((omega arith, omega arith), tt))
 
@@ -30,8 +30,8 @@ returns c =
 
 returns-2 : tie.Need-returns-2
 returns-2 c =
-    let a = c .before .before .before .before .before .before .before .before .before .args in
-    value-says binary32 (gridOf binary32 (a .axis-count) (a .axes) (now (a .vals)) (a .mode)) (a .t5) (c .answer-at .ensures ∙ rw (c .before .before .before .before .linearize-extrapolation .ensures) (value-single binary32 (gridOf binary32 (a .axis-count) (a .axes) (now (a .vals)) (a .mode)) (a .t5) (sym (c .before .before .before .before .before .before .before .new .ensures .0) ∙ c .before .before .before .before .before .enum-told2 .given .1)))
+    let a = c .before .before .before .before .before .before .before .before .args in
+    value-says binary32 (gridOf binary32 (a .axis-count) (a .axes) (now (a .vals)) (a .mode)) (a .t5) (c .answer-at .ensures ∙ value-single binary32 (gridOf binary32 (a .axis-count) (a .axes) (now (a .vals)) (a .mode)) (a .t5) (sym (c .before .before .before .before .before .before .new .ensures .0) ∙ c .before .before .before .before .enum-told2 .given .1))
 
 pub interp-one-spec : {M : Type 1} → statement M
 interp-one-spec =
@@ -41,7 +41,6 @@ interp-one-spec =
     (λ c. search needs)
     (λ c κs. search needs)
     (λ c. search needs)
-    (λ c κs. search needs)
     (λ c κs. search needs)
     strides-requires
     (λ c. search needs)

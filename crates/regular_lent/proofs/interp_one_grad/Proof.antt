@@ -1,9 +1,8 @@
 -- A gradient: zeros on a refused grid, else the one that the grid gives.
-use mathlib.Core.Path.{_≡_, _∙_}
+use mathlib.Core.Path.{_∙_}
 use denote.Ref.{now}
 use lib.Ieee.{binary64, ofBits}
 use Rattle.grid.specs.Query.{at, outcomeOf, gradientAnswer}
-use Rattle.slices.specs.Slices.{modeOf}
 use Rattle.slices.proofs.Lent.{whole, refused-gradient}
 use Rattle.regular_query.specs.Grid.{gridOf}
 use borrow.Author.Needs.{needs}
@@ -14,14 +13,13 @@ turned-away : tie.Need-returns
 unfolding ofBits
 turned-away c =
     let a = c .before .before .before .before .args in
-    refused-gradient (gridOf binary64 (a .axis-count) (a .axes) (now (a .vals)) (modeOf (a .straight))) (c .new .ensures) (c .before .enum-told .given .1) (a .x) binary64
+    refused-gradient (gridOf binary64 (a .axis-count) (a .axes) (now (a .vals)) (a .mode)) (c .new .ensures) (c .before .enum-told .given .1) (a .x) binary64
 
 let-through : tie.Need-returns-2
 let-through c =
-    let a = c .before .before .before .before .before .args in
-    let mode : _ ≡ modeOf (a .straight) = c .before .mode-of .ensures in
-    let grid = (λ i. gridOf binary64 (a .axis-count) (a .axes) (now (a .vals)) (mode i)) ∙ whole (gridOf binary64 (a .axis-count) (a .axes) (now (a .vals)) (modeOf (a .straight))) (c .before .before .enum-told2 .given .1) in
+    let a = c .before .before .before .before .args in
+    let grid = whole (gridOf binary64 (a .axis-count) (a .axes) (now (a .vals)) (a .mode)) (c .before .enum-told2 .given .1) in
     (c .interp-one-grad .ensures .0 ∙ (λ i. outcomeOf (grid i) (at (a .x))), c .interp-one-grad .ensures .1 .0 ∙ (λ i. gradientAnswer binary64 (grid i) (at (a .x))))
 
 pub interp-one-grad-spec : {M : Type 1} → statement M
-interp-one-grad-spec = tie.close (tie.spec (λ c. search needs) (λ c κs. tt) (λ c. search needs) (λ c κs. tt) (λ c κs. tt) turned-away let-through)
+interp-one-grad-spec = tie.close (tie.spec (λ c. search needs) (λ c κs. tt) (λ c. search needs) (λ c κs. tt) turned-away let-through)

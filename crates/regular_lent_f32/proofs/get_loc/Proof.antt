@@ -10,16 +10,16 @@ use Rattle.regular_lent_f32.proofs.get_loc.Statement.{statement}
 use Rattle.regular_lent_f32.proofs.get_loc.Tie as tie
 
 turned-away : tie.Need-returns
-turned-away c = λ mode.
+turned-away c =
     let a = c .before .before .before .before .before .args in
-    let away = refused-places (gridOf binary32 (a .axis-count) (a .axes) (now (a .vals)) mode) (c .before .new .ensures) (c .before .before .enum-told .given .1) (a .x) in
+    let away = refused-places (gridOf binary32 (a .axis-count) (a .axes) (now (a .vals)) (a .mode)) (c .before .new .ensures) (c .before .before .enum-told .given .1) (a .x) in
     (away .0, c .nowhere .ensures ∙ away .1)
 
 let-through : tie.Need-returns-2
-let-through c = λ mode.
+let-through c =
     let a = c .before .before .before .before .args in
-    let grid = whole (gridOf binary32 (a .axis-count) (a .axes) (now (a .vals)) mode) (c .before .enum-told2 .given .1) in
-    (c .get-loc .ensures .0 mode ∙ (λ i. outcomeOf (grid i) (at (a .x))), c .get-loc .ensures .1 .0 mode ∙ (λ i. placeAnswer (grid i) (at (a .x))))
+    let grid = whole (gridOf binary32 (a .axis-count) (a .axes) (now (a .vals)) (a .mode)) (c .before .enum-told2 .given .1) in
+    (c .get-loc .ensures .0 ∙ (λ i. outcomeOf (grid i) (at (a .x))), c .get-loc .ensures .1 .0 ∙ (λ i. placeAnswer (grid i) (at (a .x))))
 
 pub get-loc-spec : {M : Type 1} → statement M
 get-loc-spec = tie.close (tie.spec (λ c. search needs) (λ c κs. tt) (λ c κs. tt) (λ c. search needs) (λ c κs. tt) turned-away let-through)
