@@ -35,7 +35,8 @@
  * mode is what is followed past the ends of an axis. No check of a grid depends on it, so new takes none.
  *   0  cubic     the cubic itself
  *   1  straight  a straight line, as with the original's linearize_extrapolation
- *   2  held      level from the end on: the end's node stands in place of the query
+ *   2  held      level from the end on: a coordinate below the axis's first entry or above its last is replaced by that entry before
+ *                anything else is done with it. Number 8 and the place that get_loc tells are then those of the query so used
  * A number above 2 names no mode, and nothing is answered in a mode that nobody named: it is refused with 3, looked at together
  * with slices that are too short. This 3 is ours, and not the mismatch of table 2.2 in docs/SPECIFICATION.md.
  *

@@ -44,6 +44,9 @@ module _ (s : Gathered) (refusal : ℕ) where
   abbrev slices : Outcome
   slices = slicesOf (s .grid .axis-count) (s .shortest) refusal
 
+  pub accepted-to : IsAccepted (lentTo s refusal) → IsAccepted (s .grid)
+  accepted-to = accepted slices (s .grid)
+
   pub supplied-to : {f : Format} {premises : Type 0} → Supplied f premises (s .grid) → Supplied f premises (lentTo s refusal)
   supplied-to = lent-supplied slices (s .grid)
 

@@ -10,16 +10,16 @@ use Rattle.grid.specs.Batch.{interpOutcome, interpBuffer, gradBuffer}
 use Rattle.grid.specs.Edges.{AtClamped}
 use Rattle.grid.specs.Nodes.{Fits}
 use Rattle.grid.proofs.AtNodes.{AtEach}
-use Rattle.guarantees.specs.Statements.{IsAccepted}
+use Rattle.guarantees.specs.Statements.{IsAccepted, HeldEdge, HeldInBatch}
 use Rattle.guarantees.proofs.Typing.{Typed}
-use Rattle.guarantees.proofs.Nodes.{Supplied, node-rule, node-corollary, node-in-batch, held-edge}
+use Rattle.guarantees.proofs.Nodes.{Supplied, node-rule, node-corollary, node-in-batch, held-edge, held-in-batch}
 use Rattle.guarantees.proofs.Blocks.{Counted, block-rule, block-gradient, block-in-batch, block-in-columns}
 use Rattle.slices.specs.Slices.{queryFrom}
 use Rattle.slices.specs.Lent.{Gathered, lentTo, lentToQuery}
 use Rattle.capi.specs.Calls.{interpOneLeaves, interpOneGradLeaves, interpLeaves, interpGradLeaves}
-use Rattle.capi_guarantees.specs.Statements.{OfValue, OfGradient, OfBatch, OfColumns, Owed, OwedHeld}
+use Rattle.capi_guarantees.specs.Statements.{outcomeRead, answerRead, OfValue, OfGradient, OfBatch, OfColumns, Owed, OwedHeld}
 use Rattle.capi_guarantees.proofs.Typing.{typed, query-typed}
-use Rattle.capi_guarantees.proofs.Lent.{supplied-to, counted-to, refusal-holds, accepted-query, supplied-to-query, counted-to-query}
+use Rattle.capi_guarantees.proofs.Lent.{accepted-to, supplied-to, counted-to, refusal-holds, accepted-query, supplied-to-query, counted-to-query}
 use Rattle.capi_guarantees.proofs.Read.{value-read, gradient-read, number-read, query-read}
 
 module _ (f : Format) (premises : Type 0) (s s' : Gathered) where
@@ -100,11 +100,25 @@ module _ (f : Format) (premises : Type 0) (s s' : Gathered) where
   }
 
 -- of one table that holds its edges, where the kind supplies the rows of a query past an end
-pub owed-held : (f : Format) (premises : Type 0) (s : Gathered) → Supplied f premises (s .grid)
-    → ((query : ℕ → Float) → Typed f query → IsAccepted (s .grid) → premises → (is : List ℕ) → AtClamped 0 (s .grid .axes) is query → AtEach 0 (s .grid .axes) is query) → OwedHeld f premises s
-owed-held f premises s kind rows x out refusal fit index h =
-    let one = lentToQuery s (length x) (length refusal) (length out) 1 in
-    let query = at (queryFrom x) in
-    let taken = accepted-query s (length x) (length refusal) (length out) 1 in
-    let r = held-edge f premises one (supplied-to-query s (length x) (length refusal) (length out) 1 kind) query (λ e. rows query (query-typed f x fit) (taken e)) (valueAnswer f one query) refl index h in
-    (r .0, value-read f s x refusal out (r .0) (h .0) (r .1), r .2)
+module _ (f : Format) (premises : Type 0) (s : Gathered) (kind : Supplied f premises (s .grid)) (rows : (query : ℕ → Float) → Typed f query → IsAccepted (s .grid) → premises → (is : List ℕ) → AtClamped 0 (s .grid .axes) is query → AtEach 0 (s .grid .axes) is query) where
+  held-value : (x out : List Float) (refusal : List ℕ) → Fits f x → HeldEdge premises (lentToQuery s (length x) (length refusal) (length out) 1) (at (queryFrom x)) (answerRead (interpOneLeaves f s x refusal out))
+  held-value x out refusal fit index h =
+      let one = lentToQuery s (length x) (length refusal) (length out) 1 in
+      let supplied = supplied-to-query s (length x) (length refusal) (length out) 1 kind in
+      let r = held-edge f premises one supplied (λ query typed e. rows query typed (accepted-query s (length x) (length refusal) (length out) 1 e)) (at (queryFrom x)) (query-typed f x fit) (valueAnswer f one (at (queryFrom x))) refl index h in
+      (r .0, value-read f s x refusal out (r .0) (h .0) (r .1), r .2)
+
+  held-batch : (queries out : List Float) (refusal : List ℕ) → Fits f queries
+      → HeldInBatch premises (lentTo s (length refusal)) queries (outcomeRead (interpLeaves f s queries refusal out)) out (interpLeaves f s queries refusal out .written)
+  unfolding interpLeaves
+  held-batch queries out refusal fit i index l h not-seven not-earlier =
+      let many = lentTo s (length refusal) in
+      let o = interpOutcome f many queries out in
+      let after = interpBuffer f many queries out in
+      let number = number-read refusal after o in
+      let told = query-read refusal after o (refusal-holds s (length refusal) (h .0)) in
+      held-in-batch f premises many (supplied-to s (length refusal) kind) (λ query typed e. rows query typed (accepted-to s (length refusal) e)) queries out after o (typed f queries fit) refl refl i index l h
+      (λ seven. not-seven (number ∙ seven)) (λ eight earlier. not-earlier (number ∙ eight) (subst (λ (q : ℕ). q < i) (sym (told eight)) earlier))
+
+  pub owed-held : OwedHeld f premises s
+  owed-held = record { value = held-value; batch = held-batch }

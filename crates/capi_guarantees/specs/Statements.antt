@@ -12,7 +12,7 @@ use Rattle.multicubic.specs.declared.Outcome.the-variants.{Accepted, Refused}
 use Rattle.multicubic.specs.Answers.{answered}
 use Rattle.grid.specs.Query.{Grid, at}
 use Rattle.grid.specs.Nodes.{Fits}
-use Rattle.guarantees.specs.Statements.{NodeRule, NodeCorollary, NodeInBatch, HeldEdge, BlockRule, BlockGradient, BlockInBatch, BlockInColumns}
+use Rattle.guarantees.specs.Statements.{NodeRule, NodeCorollary, NodeInBatch, HeldEdge, HeldInBatch, BlockRule, BlockGradient, BlockInBatch, BlockInColumns}
 use Rattle.slices.specs.Slices.{queryFrom}
 use Rattle.slices.specs.Lent.{Gathered, lentTo, lentToQuery}
 use Rattle.told.specs.Told.{Leaves}
@@ -66,8 +66,9 @@ pub record Owed (f : Format) (premises : Type 0) (s s' : Gathered) : Type 0 wher
       → OfColumns f (lentTo s (length refusal)) (lentTo s' (length refusal'))
       queries out out' (interpGradLeaves f s queries refusal out) (interpGradLeaves f s' queries refusal' out')
 
--- ---- `interp_one` on a table that holds its edges
-abbrev pub OwedHeld : Format → Type 0 → Gathered → Type 0
-OwedHeld f premises s =
-    (x value : List Float) (refusal : List ℕ) → Fits f x
-    → HeldEdge premises (lentToQuery s (length x) (length refusal) (length value) 1) (at (queryFrom x)) (answerRead (interpOneLeaves f s x refusal value))
+-- ---- `interp_one` and `interp` on a table that holds its edges
+pub record OwedHeld (f : Format) (premises : Type 0) (s : Gathered) : Type 0 where
+  pub value : (x value : List Float) (refusal : List ℕ) → Fits f x
+      → HeldEdge premises (lentToQuery s (length x) (length refusal) (length value) 1) (at (queryFrom x)) (answerRead (interpOneLeaves f s x refusal value))
+  pub batch : (queries out : List Float) (refusal : List ℕ) → Fits f queries
+      → HeldInBatch premises (lentTo s (length refusal)) queries (outcomeRead (interpLeaves f s queries refusal out)) out (interpLeaves f s queries refusal out .written)

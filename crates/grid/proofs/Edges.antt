@@ -103,6 +103,13 @@ pub record InOrder (f : Format) (g : GridAxis) : Type 0 where
   pub whole : (i : ℕ) → i < g .count → T (finite (g .node i))
   pub rising : (i j : ℕ) → i ≤ j → j < g .count → lt (g .node j) (g .node i) ≡ false
 
+-- so holding twice is holding once, on every axis
+pub holds-once : (f : Format) (gs : List GridAxis) → All (InOrder f) gs → All (λ (g : GridAxis). (given : Float) → hold g (hold g given) ≡ hold g given) gs
+holds-once f [] ok = tt
+holds-once f (g ∷ gs) ok =
+    let some = ok .0 .some in
+    (hold-twice g (ok .0 .rising 0 (g .count - 1) (omega arith) (omega arith)), holds-once f gs (ok .1))
+
 -- other derivative weights at the same place
 weighed : (w d d' : Place → List Float) (l : Loc) (q : Placed) → outcomeAt w d l ≡ placed q → outcomeAt w d' l ≡ placed (record { place = q .place; weights = q .weights; derivatives = d' (q .place) })
 weighed w d d' Unplaceable q e = absurd (let y : _≡_ {A = ℕ} 0 1 = cc in omega arith)

@@ -43,7 +43,7 @@ above g given = lt (g .node (g .count - 1)) given
 abbrev pub hold : GridAxis → Float → Float
 hold g given = cond (below g given) (g .node 0) (cond (above g given) (g .node (g .count - 1)) given)
 
--- the axis that holds its edge: it places and weighs the query as used, and its slope is four +0 where that is not the query as given
+-- the axis that holds its edge: it places and weighs the query as used, and its derivative weights are four +0 where the query was replaced
 abbrev pub heldAxis : GridAxis → GridAxis
 heldAxis g = record {
   count = g .count;

@@ -21,7 +21,7 @@ use Rattle.grid.proofs.Premises.{NodeLaws, Sized}
 use Rattle.grid.proofs.AtNodes.{AtEach, at-each, NodeCase, node-answer, node-differs}
 use Rattle.grid.proofs.Batches.{PlacedAt, Lowest, refused-lowest, accepted-all, interp-refused, interp-answers}
 use Rattle.grid.proofs.InBatches.{node-entry}
-use Rattle.guarantees.specs.Statements.{IsAccepted, QueryAtNode, NodeRule, NodeCorollary, NodeInBatch, HeldEdge}
+use Rattle.guarantees.specs.Statements.{IsAccepted, QueryAtNode, NodeRule, NodeCorollary, NodeInBatch, QueryClamped, HeldEdge, HeldInBatch}
 use Rattle.guarantees.proofs.Typing.{Typed}
 
 -- what a kind supplies of a grid: its sizes by the checks, the laws of its axes within the kind's premises, and the values by typing
@@ -73,20 +73,32 @@ module _ (f : Format) (premises : Type 0) (g : Grid) (kind : Supplied f premises
             branch true t w eight here = w .1 .before j (ltb-true j q t)
             branch false t w eight here = absurd (not-earlier eight (let m = ltb-false j q t in omega arith))
 
+  -- a query whose rows are those of a node has the number stored there in its entry
+  in-batch : (queries before after : List Float) (outcome : Outcome) → outcome ≡ interpOutcome f g queries before → after ≡ interpBuffer f g queries before → IsAccepted g
+      → (i : ℕ) (is : List ℕ) → i < length before → (numberOf outcome ≡ 7 → ⊥) → (numberOf outcome ≡ 8 → queryOf outcome < i → ⊥)
+      → NodeCase f g is (queryAt (length before) queries i) → T (eq (getD after i nan) (stored g is))
+  in-batch queries before after outcome o b taken i is h not-seven not-earlier case =
+      let ok = checked queries before after outcome o taken not-seven in
+      let placed = earlier queries before after outcome o taken not-seven i h not-earlier in
+      subst (λ (l : List Float). T (eq (getD l i nan) (stored g is))) (sym b) (node-entry f g is queries before ok i h placed case)
+
   pub node-in-batch : (queries before after : List Float) (outcome : Outcome) → Typed f (at queries) → outcome ≡ interpOutcome f g queries before → after ≡ interpBuffer f g queries before → NodeInBatch premises g queries outcome before after
   node-in-batch queries before after outcome typed o b i node h q not-seven not-earlier =
-      let ok = checked queries before after outcome o (q .0) not-seven in
-      let placed = earlier queries before after outcome o (q .0) not-seven i h not-earlier in
-      let case = at-node (queryAt (length before) queries i) (λ axis. typed _) node q in
-      subst (λ (l : List Float). T (eq (getD l i nan) (stored g node))) (sym b) (node-entry f g node queries before ok i h placed case)
+      in-batch queries before after outcome o b (q .0) i node h not-seven not-earlier (at-node (queryAt (length before) queries i) (λ axis. typed _) node q)
 
--- a kind supplies the rows of a query at a node or past an end, too
-pub held-edge : (f : Format) (premises : Type 0) (g : Grid) → Supplied f premises g → (query : ℕ → Float)
-    → (IsAccepted g → premises → (is : List ℕ) → AtClamped 0 (g .axes) is query → AtEach 0 (g .axes) is query)
-    → (answer : Answer) → answer ≡ valueAnswer f g query → HeldEdge premises g query answer
-held-edge f premises g kind query rows answer e index h =
-    let n = node-answer f g index query (h .0) (record { sized = kind .sized (h .0); whole = h .2; held = kind .held; rows = rows (h .0) (h .1) index (h .3) }) in
-    (n .0, e ∙ n .1, n .2)
+  -- where the edges are held, a kind supplies the rows of a query at a node or past an end, too
+  module _ (rows : (query : ℕ → Float) → Typed f query → IsAccepted g → premises → (is : List ℕ) → AtClamped 0 (g .axes) is query → AtEach 0 (g .axes) is query) where
+    clamped : (query : ℕ → Float) → Typed f query → (index : List ℕ) → QueryClamped premises g index query → NodeCase f g index query
+    clamped query typed index h = record { sized = kind .sized (h .0); whole = h .2; held = kind .held; rows = rows query typed (h .0) (h .1) index (h .3) }
+
+    pub held-edge : (query : ℕ → Float) → Typed f query → (answer : Answer) → answer ≡ valueAnswer f g query → HeldEdge premises g query answer
+    held-edge query typed answer e index h =
+        let n = node-answer f g index query (h .0) (clamped query typed index h) in
+        (n .0, e ∙ n .1, n .2)
+
+    pub held-in-batch : (queries before after : List Float) (outcome : Outcome) → Typed f (at queries) → outcome ≡ interpOutcome f g queries before → after ≡ interpBuffer f g queries before → HeldInBatch premises g queries outcome before after
+    held-in-batch queries before after outcome typed o b i index h q not-seven not-earlier =
+        in-batch queries before after outcome o b (q .0) i index h not-seven not-earlier (clamped (queryAt (length before) queries i) (λ axis. typed _) index q)
 
 pub node-corollary : (f : Format) (premises : Type 0) (g g' : Grid) → Supplied f premises g → Supplied f premises g' → (query : ℕ → Float) → Typed f query → (answer answer' : Answer) → answer ≡ valueAnswer f g query → answer' ≡ valueAnswer f g' query
     → NodeCorollary premises g g' query answer answer'

@@ -38,20 +38,29 @@ NodeCorollary premises g g' query answer answer' =
     (node : List ℕ) → QueryAtNode premises g node query → QueryAtNode premises g' node query
     → (v : Float) × (v' : Float) × (answer ≡ Value v) × (answer' ≡ Value v') × (eq v v' ≡ eq (stored g node) (stored g' node))
 
--- 8.3: after `interp` its entry holds that number, unless the answer is 7, or 8 with an earlier query
-abbrev pub NodeInBatch : Type 0 → Grid → List Float → Outcome → List Float → List Float → Type 0
-NodeInBatch premises g queries outcome before after =
-    (i : ℕ) (node : List ℕ) → i < length before → QueryAtNode premises g node (queryAt (length before) queries i)
+-- after `interp` the entry of a query that is at a node in some sense holds its number, unless the answer is 7, or 8 with an earlier query
+abbrev pub EntryHolds : (List ℕ → (ℕ → Float) → Type 0) → Grid → List Float → Outcome → List Float → List Float → Type 0
+EntryHolds at-node g queries outcome before after =
+    (i : ℕ) (node : List ℕ) → i < length before → at-node node (queryAt (length before) queries i)
     → (numberOf outcome ≡ 7 → ⊥) → (numberOf outcome ≡ 8 → queryOf outcome < i → ⊥)
     → T (eq (getD after i nan) (stored g node))
 
+-- 8.3
+abbrev pub NodeInBatch : Type 0 → Grid → List Float → Outcome → List Float → List Float → Type 0
+NodeInBatch premises g = EntryHolds (QueryAtNode premises g) g
+
 -- ---- held edges
--- 8.6: on an accepted grid that holds its edges, within the premises, a query that is on each axis at a node or past an end is answered with the
--- number stored at the index so clamped
+-- 8.6: a query that is on each axis at a node or past an end, on an accepted grid within the premises, and the index so clamped. The grid holds its
+-- edges: its axes do.
+abbrev pub QueryClamped : Type 0 → Grid → List ℕ → (ℕ → Float) → Type 0
+QueryClamped premises g index query = IsAccepted g × premises × FiniteValues (g .vals) × AtClamped 0 (g .axes) index query
+
+-- its answer is the number stored there
 abbrev pub HeldEdge : Type 0 → Grid → (ℕ → Float) → Answer → Type 0
-HeldEdge premises g query answer =
-    (index : List ℕ) → IsAccepted g × premises × FiniteValues (g .vals) × AtClamped 0 (g .axes) index query
-    → (v : Float) × (answer ≡ Value v) × T (eq v (stored g index))
+HeldEdge premises g query answer = (index : List ℕ) → QueryClamped premises g index query → (v : Float) × (answer ≡ Value v) × T (eq v (stored g index))
+
+abbrev pub HeldInBatch : Type 0 → Grid → List Float → Outcome → List Float → List Float → Type 0
+HeldInBatch premises g = EntryHolds (QueryClamped premises g) g
 
 -- ---- blocks
 -- 8.5: two accepted grids with the same axes, which hold the setting too, since they give the weights; the query is placeable, at ps, and the

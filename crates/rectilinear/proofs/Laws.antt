@@ -16,12 +16,12 @@ use Rattle.multicubic.specs.Grid.{sum}
 use Rattle.rectilinear_order.specs.Grid.{axesOf}
 use Rattle.rectilinear_axis.specs.Nodes.{Premises}
 use Rattle.rectilinear_axis.proofs.AtNodes.{node-finite, nodes-rise, at-node}
-use Rattle.grid.specs.Query.{GridAxis, heldAxis}
+use Rattle.grid.specs.Query.{GridAxis, hold, heldAxis}
 use Rattle.grid.specs.Edges.{AtClamped}
 use Rattle.grid.specs.Nodes.{All, Fits}
 use Rattle.grid.proofs.Premises.{NodeLaw, NodeLaws, Long}
 use Rattle.grid.proofs.AtNodes.{AtEach}
-use Rattle.grid.proofs.Edges.{InOrder, edge-law, clamped-each}
+use Rattle.grid.proofs.Edges.{InOrder, holds-once, edge-law, clamped-each}
 use Rattle.grid.proofs.Sizes.{all-long}
 use Rattle.rectilinear_query.specs.Grid.{gridAxis, axisIn, gridAxes, axesIn, gridOf, AllPremises}
 use Rattle.rectilinear_query.proofs.Sizes.{part-length, rest-length, passed, joined-length}
@@ -79,6 +79,10 @@ module _ (f : Format) (n : ℕ) (counts : List ℕ) (joined vals : List Float) (
 
   pub node-laws : NodeLaws f (axesIn f mode n counts joined)
   node-laws = laws f mode (take n counts) joined total long fit premises
+
+  -- what is held stays where it is
+  pub held-once : All (λ (g : GridAxis). (given : Float) → hold g (hold g given) ≡ hold g given) (axesIn f Cubic n counts joined)
+  held-once = holds-once f (axesIn f Cubic n counts joined) (orders f (take n counts) joined total long fit premises)
 
   -- in held mode, of a query at a node or past an end
   pub clamped-rows : (is : List ℕ) (query : ℕ → Float) → ((a : ℕ) → T (fits f (query a))) → AtClamped 0 (axesIn f Held n counts joined) is query → AtEach 0 (axesIn f Held n counts joined) is query

@@ -5,10 +5,10 @@ ghost use lib.Ieee.{binary64};
 ghost use Rattle.multicubic.specs.Same.{asAnswer};
 ghost use Rattle.multicubic.specs.declared.EdgeMode.the-variants.{Held};
 ghost use Rattle.grid.specs.Query.{at, valueAnswer};
-ghost use Rattle.grid.specs.Batch.{interpOutcome};
+ghost use Rattle.grid.specs.Batch.{interpOutcome, interpBuffer};
 ghost use Rattle.rectilinear_order.specs.Grid.{axesOf};
 ghost use Rattle.rectilinear_query.specs.Grid.{gridOf, AllPremises};
-ghost use Rattle.guarantees.specs.Statements.{AnswersOf, BuffersOf, HeldEdge, OwedAlone, OwedInBatch};
+ghost use Rattle.guarantees.specs.Statements.{AnswersOf, BuffersOf, HeldEdge, HeldInBatch, OwedAlone, OwedInBatch};
 use guarantees::TwoTables;
 use multicubic::Answer;
 use multicubic::EdgeMode;
@@ -117,4 +117,23 @@ pub fn held_edge(
     ensures { λ r. ⌜ asAnswer r ≡ valueAnswer binary64 (gridOf binary64 «axis_count» counts (now (axes .entry)) (now (vals .entry)) Held) (at x) ⌝ }
 {
     rectilinear::interp_one(axis_count, counts, axes, vals, EdgeMode::Held, x)
+}
+
+// The same in a batch.
+pub fn held_in_batch(
+    axis_count: usize,
+    counts: [usize; 4],
+    axes: &[f64],
+    queries: &[f64],
+    vals: &[f64],
+    out: &mut [f64],
+) -> Outcome
+    ensures { λ r. ⌜ HeldInBatch (AllPremises binary64 (axesOf (take «axis_count» counts) (now (axes .entry))))
+        (gridOf binary64 «axis_count» counts (now (axes .entry)) (now (vals .entry)) Held) (now (queries .entry)) r (now (out .entry)) (now (out .exit)) ⌝ }
+    ensures { λ r. ⌜ r ≡ interpOutcome binary64 (gridOf binary64 «axis_count» counts (now (axes .entry)) (now (vals .entry)) Held)
+        (now (queries .entry)) (now (out .entry)) ⌝ }
+    ensures { λ r. ⌜ now (out .exit) ≡ interpBuffer binary64 (gridOf binary64 «axis_count» counts (now (axes .entry)) (now (vals .entry)) Held)
+        (now (queries .entry)) (now (out .entry)) ⌝ }
+{
+    rectilinear_batch::interp(axis_count, counts, axes, vals, EdgeMode::Held, queries, out)
 }

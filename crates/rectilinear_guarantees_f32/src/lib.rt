@@ -5,10 +5,10 @@ ghost use lib.ListN.{take};
 ghost use lib.Ieee.{binary32};
 ghost use Rattle.multicubic.specs.declared.EdgeMode.the-variants.{Held};
 ghost use Rattle.grid.specs.Query.{at, valueAnswer};
-ghost use Rattle.grid.specs.Batch.{interpOutcome};
+ghost use Rattle.grid.specs.Batch.{interpOutcome, interpBuffer};
 ghost use Rattle.rectilinear_order.specs.Grid.{axesOf};
 ghost use Rattle.rectilinear_query.specs.Grid.{gridOf, AllPremises};
-ghost use Rattle.guarantees.specs.Statements.{AnswersOf, BuffersOf, HeldEdge, OwedAlone, OwedInBatch};
+ghost use Rattle.guarantees.specs.Statements.{AnswersOf, BuffersOf, HeldEdge, HeldInBatch, OwedAlone, OwedInBatch};
 ghost use Rattle.multicubic_f32.specs.Same.{asAnswer};
 use guarantees_f32::TwoTablesF32;
 use multicubic::EdgeMode;
@@ -125,4 +125,23 @@ pub fn held_edge(
     ensures { λ r. ⌜ asAnswer r ≡ valueAnswer binary32 (gridOf binary32 «axis_count» counts (now (axes .entry)) (now (vals .entry)) Held) (at x) ⌝ }
 {
     rectilinear_f32::interp_one(axis_count, counts, axes, vals, EdgeMode::Held, x)
+}
+
+// The same in a batch.
+pub fn held_in_batch(
+    axis_count: usize,
+    counts: [usize; 4],
+    axes: &[f32],
+    queries: &[f32],
+    vals: &[f32],
+    out: &mut [f32],
+) -> Outcome
+    ensures { λ r. ⌜ HeldInBatch (AllPremises binary32 (axesOf (take «axis_count» counts) (now (axes .entry))))
+        (gridOf binary32 «axis_count» counts (now (axes .entry)) (now (vals .entry)) Held) (now (queries .entry)) r (now (out .entry)) (now (out .exit)) ⌝ }
+    ensures { λ r. ⌜ r ≡ interpOutcome binary32 (gridOf binary32 «axis_count» counts (now (axes .entry)) (now (vals .entry)) Held)
+        (now (queries .entry)) (now (out .entry)) ⌝ }
+    ensures { λ r. ⌜ now (out .exit) ≡ interpBuffer binary32 (gridOf binary32 «axis_count» counts (now (axes .entry)) (now (vals .entry)) Held)
+        (now (queries .entry)) (now (out .entry)) ⌝ }
+{
+    rectilinear_batch_f32::interp(axis_count, counts, axes, vals, EdgeMode::Held, queries, out)
 }

@@ -19,12 +19,12 @@ use Rattle.multicubic.proofs.Sizes.{or-false}
 use Rattle.regular_axis.specs.Nodes.{Premises}
 use Rattle.regular_axis.proofs.Exact.{node-finite, nodes-rise}
 use Rattle.regular_axis.proofs.AtNodes.{at-node}
-use Rattle.grid.specs.Query.{GridAxis, heldAxis}
+use Rattle.grid.specs.Query.{GridAxis, hold, heldAxis}
 use Rattle.grid.specs.Edges.{AtClamped}
 use Rattle.grid.specs.Nodes.{All}
 use Rattle.grid.proofs.Premises.{NodeLaw, NodeLaws, Long}
 use Rattle.grid.proofs.AtNodes.{AtEach}
-use Rattle.grid.proofs.Edges.{InOrder, edge-law, clamped-each}
+use Rattle.grid.proofs.Edges.{InOrder, holds-once, edge-law, clamped-each}
 use Rattle.grid.proofs.Sizes.{all-long}
 use Rattle.regular_query.specs.Grid.{countsOf, gridAxis, axisIn, gridAxes, axesIn, gridOf, AllPremises}
 use Rattle.regular_query.proofs.Sizes.{counts-taken, passed}
@@ -72,6 +72,10 @@ module _ (f : Format) (n : ℕ) (axes : List Axis) (vals : List Float) (mode : E
 
   pub node-laws : NodeLaws f (axesIn f mode n axes)
   node-laws = laws f mode (take n axes) within-taken long-taken premises
+
+  -- what is held stays where it is
+  pub held-once : All (λ (g : GridAxis). (given : Float) → hold g (hold g given) ≡ hold g given) (axesIn f Cubic n axes)
+  held-once = holds-once f (axesIn f Cubic n axes) (orders f (take n axes) within-taken long-taken premises)
 
   -- in held mode, of a query at a node or past an end
   pub clamped-rows : (is : List ℕ) (query : ℕ → Float) → ((a : ℕ) → T (fits f (query a))) → AtClamped 0 (axesIn f Held n axes) is query → AtEach 0 (axesIn f Held n axes) is query

@@ -5,9 +5,9 @@ ghost use lib.Ieee.{binary64};
 ghost use Rattle.multicubic.specs.Same.{asAnswer};
 ghost use Rattle.multicubic.specs.declared.EdgeMode.the-variants.{Held};
 ghost use Rattle.grid.specs.Query.{at, valueAnswer};
-ghost use Rattle.grid.specs.Batch.{interpOutcome};
+ghost use Rattle.grid.specs.Batch.{interpOutcome, interpBuffer};
 ghost use Rattle.regular_query.specs.Grid.{gridOf, AllPremises};
-ghost use Rattle.guarantees.specs.Statements.{AnswersOf, BuffersOf, HeldEdge, OwedAlone, OwedInBatch};
+ghost use Rattle.guarantees.specs.Statements.{AnswersOf, BuffersOf, HeldEdge, HeldInBatch, OwedAlone, OwedInBatch};
 use guarantees::TwoTables;
 use multicubic::Answer;
 use multicubic::Axis;
@@ -93,4 +93,22 @@ pub fn held_edge(axis_count: usize, axes: [Axis; 4], vals: &[f64], x: [f64; 4]) 
     ensures { λ r. ⌜ asAnswer r ≡ valueAnswer binary64 (gridOf binary64 «axis_count» axes (now (vals .entry)) Held) (at x) ⌝ }
 {
     regular::interp_one(axis_count, axes, vals, EdgeMode::Held, x)
+}
+
+// The same in a batch.
+pub fn held_in_batch(
+    axis_count: usize,
+    axes: [Axis; 4],
+    queries: &[f64],
+    vals: &[f64],
+    out: &mut [f64],
+) -> Outcome
+    ensures { λ r. ⌜ HeldInBatch (AllPremises (take «axis_count» axes))
+        (gridOf binary64 «axis_count» axes (now (vals .entry)) Held) (now (queries .entry)) r (now (out .entry)) (now (out .exit)) ⌝ }
+    ensures { λ r. ⌜ r ≡ interpOutcome binary64 (gridOf binary64 «axis_count» axes (now (vals .entry)) Held)
+        (now (queries .entry)) (now (out .entry)) ⌝ }
+    ensures { λ r. ⌜ now (out .exit) ≡ interpBuffer binary64 (gridOf binary64 «axis_count» axes (now (vals .entry)) Held)
+        (now (queries .entry)) (now (out .entry)) ⌝ }
+{
+    regular_batch::interp(axis_count, axes, vals, EdgeMode::Held, queries, out)
 }

@@ -5,9 +5,9 @@ ghost use lib.ListN.{take};
 ghost use lib.Ieee.{binary32};
 ghost use Rattle.multicubic.specs.declared.EdgeMode.the-variants.{Held};
 ghost use Rattle.grid.specs.Query.{at, valueAnswer};
-ghost use Rattle.grid.specs.Batch.{interpOutcome};
+ghost use Rattle.grid.specs.Batch.{interpOutcome, interpBuffer};
 ghost use Rattle.regular_query.specs.Grid.{gridOf, AllPremises};
-ghost use Rattle.guarantees.specs.Statements.{AnswersOf, BuffersOf, HeldEdge, OwedAlone, OwedInBatch};
+ghost use Rattle.guarantees.specs.Statements.{AnswersOf, BuffersOf, HeldEdge, HeldInBatch, OwedAlone, OwedInBatch};
 ghost use Rattle.multicubic_f32.specs.Same.{asAnswer, asAxes};
 use guarantees_f32::TwoTablesF32;
 use multicubic::EdgeMode;
@@ -94,4 +94,22 @@ pub fn held_edge(axis_count: usize, axes: [AxisF32; 4], vals: &[f32], x: [f32; 4
     ensures { λ r. ⌜ asAnswer r ≡ valueAnswer binary32 (gridOf binary32 «axis_count» (asAxes axes) (now (vals .entry)) Held) (at x) ⌝ }
 {
     regular_f32::interp_one(axis_count, axes, vals, EdgeMode::Held, x)
+}
+
+// The same in a batch.
+pub fn held_in_batch(
+    axis_count: usize,
+    axes: [AxisF32; 4],
+    queries: &[f32],
+    vals: &[f32],
+    out: &mut [f32],
+) -> Outcome
+    ensures { λ r. ⌜ HeldInBatch (AllPremises (take «axis_count» (asAxes axes)))
+        (gridOf binary32 «axis_count» (asAxes axes) (now (vals .entry)) Held) (now (queries .entry)) r (now (out .entry)) (now (out .exit)) ⌝ }
+    ensures { λ r. ⌜ r ≡ interpOutcome binary32 (gridOf binary32 «axis_count» (asAxes axes) (now (vals .entry)) Held)
+        (now (queries .entry)) (now (out .entry)) ⌝ }
+    ensures { λ r. ⌜ now (out .exit) ≡ interpBuffer binary32 (gridOf binary32 «axis_count» (asAxes axes) (now (vals .entry)) Held)
+        (now (queries .entry)) (now (out .entry)) ⌝ }
+{
+    regular_batch_f32::interp(axis_count, axes, vals, EdgeMode::Held, queries, out)
 }

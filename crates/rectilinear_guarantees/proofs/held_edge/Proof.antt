@@ -18,8 +18,8 @@ returns c =
     let a = s .args in
     let x = s .good .1 .1 .1 .1 .0 in
     let answer = c .interp-one .ensures .0 in (
-      held-edge binary64 _ _ (supplied binary64 (a .axis-count) (a .counts) (now (a .axes)) (now (a .vals)) Held entries vals) (at (a .x))
-          (clamped binary64 (a .axis-count) (a .counts) (now (a .axes)) (now (a .vals)) entries (at (a .x)) (array-fits binary64 (a .x) (x .0) (x .1 .1))) _ answer,
+      held-edge binary64 _ _ (supplied binary64 (a .axis-count) (a .counts) (now (a .axes)) (now (a .vals)) Held entries vals) (clamped binary64 (a .axis-count) (a .counts) (now (a .axes)) (now (a .vals)) entries)
+          (at (a .x)) (array-fits binary64 (a .x) (x .0) (x .1 .1)) _ answer,
       answer,
     )
 

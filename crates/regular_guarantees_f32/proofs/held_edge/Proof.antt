@@ -17,8 +17,8 @@ returns c =
     let a = s .args in
     let x = s .good .1 .1 .1 .0 in
     let answer = c .interp-one .ensures .0 in (
-      held-edge binary32 _ _ (supplied binary32 (a .axis-count) (a .axes) (now (a .vals)) Held vals) (at (a .x))
-          (clamped binary32 (a .axis-count) (a .axes) (now (a .vals)) (at (a .x)) (array-fits binary32 (a .x) (x .0) (x .1 .1))) _ answer,
+      held-edge binary32 _ _ (supplied binary32 (a .axis-count) (a .axes) (now (a .vals)) Held vals) (clamped binary32 (a .axis-count) (a .axes) (now (a .vals)))
+          (at (a .x)) (array-fits binary32 (a .x) (x .0) (x .1 .1)) _ answer,
       answer,
     )
 
