@@ -1,17 +1,17 @@
--- Laws of the reduction, the axis count a parameter: only the block is read; the last axis is summed at the end; reading from a base
--- index and strides.
-use mathlib.Core.Path.{_≡_, refl, sym, ap, _∙_, subst}
+-- Laws of the reduction, the axis count a parameter: only the block is read; the last axis is summed at the end; reading by a running index
+-- from a base index and strides.
+use mathlib.Core.Path.{_≡_, refl, sym, ap, _∙_}
 use mathlib.Core.List.{List, [], _∷_, _++_}
 use Prim.Native.Nat.{ℕ, zero, suc, _+_, _*_, _≤_, _<_}
-use native.Mathlib.Nat.{add-zero, zero-mul, one-mul, add-mul}
+use native.Mathlib.Nat.{add-zero, add-mul, suc-mul, mul-le-mul-right}
 use native.Mathlib.Omega.{arith}
 use lib.Dec.{lit<}
-use lib.ListN.{length, getD, take}
+use lib.ListN.{length, getD, take, length-append}
 use lib.Seq.{take-suc, length-take-le}
 use lib.Ieee.{Float, nan, Format}
 use Rattle.interp_math.specs.Dot.{dot4}
 use Rattle.reduction.specs.Value.{offset, shifted, block, four, reduceOf}
-use Rattle.reduction.specs.Internal.{reach, from}
+use Rattle.reduction.specs.Internal.{reach, from, added, indexAt}
 use Rattle.reduction.specs.Nodes.{InBlock}
 
 -- one step: the values after axis 0 is summed
@@ -38,6 +38,36 @@ unfolding reduceOf
 reduce-last f [] w v = refl
 reduce-last f (x ∷ ws) w v = reduce-last f ws w (step f x v)
 
+-- ---- a running index
+pub added-is : (s j i : ℕ) → added s j i ≡ i + j * s
+added-is s zero i = omega arith
+added-is s (suc j) i = let e = added-is s j i in omega (arith, suc-mul j s)
+
+-- from any index on: as far from it as the sum of index × stride
+pub index-is : (base : ℕ) (ss js : List ℕ) → length js ≤ length ss → indexAt base ss js ≡ base + offset js ss
+index-is base ss [] h = omega arith
+index-is base [] (j ∷ js) h = absurd (omega arith)
+index-is base (s ∷ ss) (j ∷ js) h = let e = index-is base ss js (omega arith) in let a = added-is s j (indexAt base ss js) in omega arith
+
+-- from the index for j along the last axis, what is read for js is what is read from base for js and j
+pub index-last : (base j : ℕ) (ss js : List ℕ) → length js < length ss → indexAt base ss (js ++ (j ∷ [])) ≡ indexAt (added (getD ss (length js) 0) j base) ss js
+index-last base j [] js h = absurd (omega arith)
+index-last base j (s ∷ ss) [] h = refl
+index-last base j (s ∷ ss) (i ∷ js) h = ap (added s i) (index-last base j ss js (omega arith))
+
+-- i is the index for j along axis k: from i, what is read for js on the axes before k is what is read from base for js and j
+abbrev pub Carried : ℕ → ℕ → List ℕ → ℕ → ℕ → Type 0
+Carried k base ss j i = (js : List ℕ) → length js ≡ k → indexAt i ss js ≡ indexAt base ss (js ++ (j ∷ []))
+
+-- so are the four that the code has by additions; and where three strides and r more lie within the values, r lies within them from each
+pub carry : (k base j i r values : ℕ) (ss : List ℕ) → k < length ss → j < 4 → i ≡ added (getD ss k 0) j base → base + r + 3 * getD ss k 0 < values → Carried k base ss j i × (i + r < values)
+carry k base j i r values ss h l e room =
+    let m : j * getD ss k 0 ≤ 3 * getD ss k 0 = mul-le-mul-right (getD ss k 0) (omega arith) in
+    let a = added-is (getD ss k 0) j base in (
+      (λ js n. ap (λ (x : ℕ). indexAt x ss js) e ∙ ap (λ (x : ℕ). indexAt (added (getD ss x 0) j base) ss js) (sym n) ∙ sym (index-last base j ss js (omega arith))),
+      omega arith,
+    )
+
 -- ---- from a base index
 pub offset-last : (js : List ℕ) (j : ℕ) (ss : List ℕ) → length js < length ss → offset (js ++ (j ∷ [])) ss ≡ offset js ss + j * getD ss (length js) 0
 offset-last [] j [] h = absurd (omega arith)
@@ -51,35 +81,31 @@ in-length zero (j ∷ js) h = absurd h
 in-length (suc n) [] h = absurd h
 in-length (suc n) (j ∷ js) h = ap suc (in-length n js (h .1))
 
-module _ (f : Format) (vals : List Float) (w : List (List Float)) (ss : List ℕ) (k base : ℕ) (kw : k < length w) (ks : k < length ss) where
-  at : (j : ℕ) → reduceOf f (take k w) (λ js. from vals ss base (js ++ (j ∷ []))) ≡ reduceOf f (take k w) (from vals ss (base + j * getD ss k 0))
-  at j = reduce-agree f (take k w) (λ js. from vals ss base (js ++ (j ∷ []))) (from vals ss (base + j * getD ss k 0)) (λ js i. ap (λ (o : ℕ). getD vals o nan) (moved js i))
+-- is: the indices along axis k
+module _ (f : Format) (vals : List Float) (w : List (List Float)) (ss : List ℕ) (k base : ℕ) (kw : k < length w) (ks : k < length ss) (is : List ℕ) (carried : (j : ℕ) → j < 4 → Carried k base ss j (getD is j 0)) where
+  at : (j : ℕ) → j < 4 → reduceOf f (take k w) (λ js. from vals ss base (js ++ (j ∷ []))) ≡ reduceOf f (take k w) (from vals ss (getD is j 0))
+  at j l = reduce-agree f (take k w) (λ js. from vals ss base (js ++ (j ∷ []))) (from vals ss (getD is j 0)) (λ js b. ap (λ (o : ℕ). getD vals o nan) (moved js b))
     where
-      moved : (js : List ℕ) → InBlock (length (take k w)) js → base + offset (js ++ (j ∷ [])) ss ≡ base + j * getD ss k 0 + offset js ss
-      moved js i =
-          let l : length js ≡ k = in-length (length (take k w)) js i ∙ length-take-le k w (omega arith) in
-          let e = offset-last js j ss (subst (λ (n : ℕ). n < length ss) (sym l) ks) in
-          let e' : offset (js ++ (j ∷ [])) ss ≡ offset js ss + j * getD ss k 0 = subst (λ (n : ℕ). offset (js ++ (j ∷ [])) ss ≡ offset js ss + j * getD ss n 0) l e in
-          omega (arith, e')
+      moved : (js : List ℕ) → InBlock (length (take k w)) js → base + offset (js ++ (j ∷ [])) ss ≡ getD is j 0 + offset js ss
+      moved js b =
+          let n : length js ≡ k = in-length (length (take k w)) js b ∙ length-take-le k w (omega arith) in
+          sym (index-is base ss (js ++ (j ∷ [])) (rw (length-append js (j ∷ [])) (omega arith))) ∙ sym (carried j l js n) ∙ index-is (getD is j 0) ss js (omega arith)
 
   -- the reduction over axes 0 to k is the four-term sum, over axis k, of the reductions over the axes before it
-  pub reduce-step : reduceOf f (take (suc k) w) (from vals ss base) ≡ dot4 f (getD w k []) (four (λ j. reduceOf f (take k w) (from vals ss (base + j * getD ss k 0))))
+  pub reduce-step : reduceOf f (take (suc k) w) (from vals ss base) ≡ dot4 f (getD w k []) (four (λ j. reduceOf f (take k w) (from vals ss (getD is j 0))))
   reduce-step =
       ap (λ (ws : List (List Float)). reduceOf f ws (from vals ss base)) (take-suc w k [] kw)
       ∙ reduce-last f (take k w) (getD w k []) (from vals ss base)
-      ∙ ap (dot4 f (getD w k [])) (same-four (λ j. reduceOf f (take k w) (λ js. from vals ss base (js ++ (j ∷ [])))) (λ j. reduceOf f (take k w) (from vals ss (base + j * getD ss k 0))) (λ j l. at j))
+      ∙ ap (dot4 f (getD w k [])) (same-four (λ j. reduceOf f (take k w) (λ js. from vals ss base (js ++ (j ∷ [])))) (λ j. reduceOf f (take k w) (from vals ss (getD is j 0))) at)
 
-  -- the same of the numbers that the code holds
+  -- the same of the numbers that the code has
   pub step-is : (v0 v1 v2 v3 r : Float)
-      → v0 ≡ reduceOf f (take k w) (from vals ss base)
-      → v1 ≡ reduceOf f (take k w) (from vals ss (base + getD ss k 0))
-      → v2 ≡ reduceOf f (take k w) (from vals ss (base + 2 * getD ss k 0))
-      → v3 ≡ reduceOf f (take k w) (from vals ss (base + 3 * getD ss k 0))
+      → v0 ≡ reduceOf f (take k w) (from vals ss (getD is 0 0))
+      → v1 ≡ reduceOf f (take k w) (from vals ss (getD is 1 0))
+      → v2 ≡ reduceOf f (take k w) (from vals ss (getD is 2 0))
+      → v3 ≡ reduceOf f (take k w) (from vals ss (getD is 3 0))
       → r ≡ dot4 f (getD w k []) (v0 ∷ v1 ∷ v2 ∷ v3 ∷ []) → r ≡ reduceOf f (take (suc k) w) (from vals ss base)
-  step-is v0 v1 v2 v3 r e0 e1 e2 e3 e =
-      let z0 : base + 0 * getD ss k 0 ≡ base = ap (λ (z : ℕ). base + z) (zero-mul (getD ss k 0)) ∙ add-zero base in
-      let z1 : base + 1 * getD ss k 0 ≡ base + getD ss k 0 = ap (λ (z : ℕ). base + z) (one-mul (getD ss k 0)) in
-      cc reduce-step
+  step-is v0 v1 v2 v3 r e0 e1 e2 e3 e = cc reduce-step
 
 -- over no axis, the value itself
 pub leaf : (f : Format) (vals : List Float) (ss : List ℕ) (base : ℕ) → getD vals base nan ≡ reduceOf f [] (from vals ss base)
@@ -87,9 +113,8 @@ unfolding reduceOf
 leaf f vals ss base = ap (λ (z : ℕ). getD vals z nan) (sym (add-zero base))
 
 -- ---- the block at its origins is read from the base index
-offset-shifted : (os js ss : List ℕ) → length js ≡ length os → length os ≡ length ss → offset (shifted os js) ss ≡ offset os ss + offset js ss
-offset-shifted [] [] [] e d = refl
-offset-shifted [] [] (s ∷ ss) e d = refl
+offset-shifted : (os js ss : List ℕ) → length js ≡ length os → length os ≤ length ss → offset (shifted os js) ss ≡ offset os ss + offset js ss
+offset-shifted [] [] ss e d = refl
 offset-shifted [] (j ∷ js) ss e d = absurd (omega arith)
 offset-shifted (o ∷ os) [] ss e d = absurd (omega arith)
 offset-shifted (o ∷ os) (j ∷ js) [] e d = absurd (omega arith)
@@ -97,11 +122,16 @@ offset-shifted (o ∷ os) (j ∷ js) (s ∷ ss) e d =
     let i = offset-shifted os js ss (omega arith) (omega arith) in
     omega (arith, i, add-mul o j s)
 
-pub reduce-block : (f : Format) (vals : List Float) (ws : List (List Float)) (ss os : List ℕ) → length os ≡ length ws → length os ≡ length ss → reduceOf f ws (block vals ss os) ≡ reduceOf f ws (from vals ss (offset os ss))
-reduce-block f vals ws ss os e d =
-    reduce-agree f ws (block vals ss os) (from vals ss (offset os ss)) (λ js i. ap (λ (o : ℕ). getD vals o nan) (offset-shifted os js ss (in-length (length ws) js i ∙ sym e) d))
+shifted-most : (os js : List ℕ) → length (shifted os js) ≤ length os
+shifted-most [] js = omega arith
+shifted-most (o ∷ os) [] = omega arith
+shifted-most (o ∷ os) (j ∷ js) = let i = shifted-most os js in omega arith
 
--- ---- over the first n of four axes
+-- clause 5.5: from the sum of origin × stride on, the index for js is the sum of (origin + j) × stride
+pub index-sum : (os js ss : List ℕ) → length js ≡ length os → length os ≤ length ss → indexAt (offset os ss) ss js ≡ offset (shifted os js) ss
+index-sum os js ss e d = index-is (offset os ss) ss js (omega arith) ∙ sym (offset-shifted os js ss e d)
+
+-- the strides of the first n of four axes
 pub offset-take : (js ss : List ℕ) (n : ℕ) → length js ≤ n → offset js (take n ss) ≡ offset js ss
 offset-take [] ss n h = refl
 offset-take (j ∷ js) [] zero h = refl
@@ -109,14 +139,20 @@ offset-take (j ∷ js) [] (suc n) h = refl
 offset-take (j ∷ js) (s ∷ ss) zero h = absurd (omega arith)
 offset-take (j ∷ js) (s ∷ ss) (suc n) h = ap (λ (z : ℕ). j * s + z) (offset-take js ss n (omega arith))
 
+-- so, in a call on a grid of n axes whose strides are the first n of ss: what is read for js stands at the sum of (origin + j) × stride
+pub read-at : (n base : ℕ) (os js ss : List ℕ) → length os ≡ n → length js ≡ n → n ≤ length ss → base ≡ offset os ss → indexAt base ss js ≡ offset (shifted os js) (take n ss)
+read-at n base os js ss lo lj ls e =
+    ap (λ (b : ℕ). indexAt b ss js) e
+    ∙ index-sum os js ss (omega arith) (omega arith)
+    ∙ sym (offset-take (shifted os js) ss n (let m = shifted-most os js in omega arith))
+
 pub from-block : (f : Format) (vals : List Float) (ws : List (List Float)) (ss os : List ℕ) (n base : ℕ) → length ws ≡ n → length os ≡ n → n ≤ length ss → base ≡ offset os ss
     → reduceOf f ws (from vals ss base) ≡ reduceOf f ws (block vals (take n ss) os)
 from-block f vals ws ss os n base lw lo ls e =
-    reduce-agree f ws (from vals ss base) (from vals (take n ss) (offset os (take n ss)))
+    reduce-agree f ws (from vals ss base) (block vals (take n ss) os)
     (λ js i.
     let l : length js ≡ n = in-length (length ws) js i ∙ lw in
-    ap (λ (o : ℕ). getD vals o nan) (ap (λ (z : ℕ). z + offset js ss) (e ∙ sym (offset-take os ss n (omega arith))) ∙ ap (λ (z : ℕ). offset os (take n ss) + z) (sym (offset-take js ss n (omega arith)))))
-    ∙ sym (reduce-block f vals ws (take n ss) os (lo ∙ sym lw) (lo ∙ sym (length-take-le n ss ls)))
+    ap (λ (o : ℕ). getD vals o nan) (sym (index-is base ss js (omega arith)) ∙ read-at n base os js ss lo l ls e))
 
 -- how far the reductions over one to four axes reach
 pub reaches : (ss : List ℕ) → length ss ≡ 4 → (reach (take 1 ss) ≡ 3 * getD ss 0 0) × (reach (take 2 ss) ≡ 3 * getD ss 0 0 + 3 * getD ss 1 0) × (reach (take 3 ss) ≡ 3 * getD ss 0 0 + 3 * getD ss 1 0 + 3 * getD ss 2 0) × (reach (take 4 ss) ≡ 3 * getD ss 0 0 + 3 * getD ss 1 0 + 3 * getD ss 2 0 + 3 * getD ss 3 0)

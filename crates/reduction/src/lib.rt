@@ -1,12 +1,12 @@
 // Strides, and the reduction of a block by four-term sums, over 1 to 4 axes: what the value and each component end in.
 ghost use mathlib.Core.Path.{_≡_};
 ghost use mathlib.Core.Bool.{false};
-ghost use Prim.Native.Nat.{_+_, _*_, _≤_, _<_};
+ghost use Prim.Native.Nat.{ℕ, _+_, _*_, _^_, _≤_, _<_};
 ghost use lib.Ieee.{binary64};
 ghost use lib.ListN.{length, getD, take};
 ghost use Rattle.multicubic.specs.Grid.{anyOver};
 ghost use Rattle.reduction.specs.Value.{stridesOf, reduceOf};
-ghost use Rattle.reduction.specs.Internal.{from};
+ghost use Rattle.reduction.specs.Internal.{from, added};
 use interp_math::dot4;
 
 // The strides of the first n axes, the last axis fastest.
@@ -27,20 +27,26 @@ pub fn strides(n: usize, counts: [usize; 4]) -> [usize; 4]
     strides
 }
 
+// The four indices along one axis from an index on: each is the one before it plus the axis's stride.
+fn along(base: usize, stride: usize) -> [usize; 4]
+    requires { ⌜ base + 3 * stride < 2 ^ 64 ⌝ }
+    ensures { λ r. ⌜ ((j : ℕ) → j < 4 → getD r j 0 ≡ added stride j base) ⌝ }
+{
+    let i1 = base + stride;
+    let i2 = i1 + stride;
+    let i3 = i2 + stride;
+    [base, i1, i2, i3]
+}
+
 // The block from its first value's index on, reduced over one axis; then over two, three and four, axis 0 first.
 pub fn reduce1(vals: &[f64], weights: [[f64; 4]; 4], strides: [usize; 4], base: usize) -> f64
     requires { ⌜ base + 3 * getD strides 0 0 < length (now vals) ⌝ }
     ensures { λ r. ⌜ r ≡ reduceOf binary64 (take 1 weights) (from (now (vals .entry)) strides base) ⌝ }
 {
-    let s0 = strides[0];
+    let at = along(base, strides[0]);
     dot4(
         weights[0],
-        [
-            vals[base],
-            vals[base + s0],
-            vals[base + 2 * s0],
-            vals[base + 3 * s0],
-        ],
+        [vals[at[0]], vals[at[1]], vals[at[2]], vals[at[3]]],
     )
 }
 
@@ -48,11 +54,11 @@ pub fn reduce2(vals: &[f64], weights: [[f64; 4]; 4], strides: [usize; 4], base: 
     requires { ⌜ base + 3 * getD strides 0 0 + 3 * getD strides 1 0 < length (now vals) ⌝ }
     ensures { λ r. ⌜ r ≡ reduceOf binary64 (take 2 weights) (from (now (vals .entry)) strides base) ⌝ }
 {
-    let s1 = strides[1];
-    let v0 = reduce1(vals, weights, strides, base);
-    let v1 = reduce1(vals, weights, strides, base + s1);
-    let v2 = reduce1(vals, weights, strides, base + 2 * s1);
-    let v3 = reduce1(vals, weights, strides, base + 3 * s1);
+    let at = along(base, strides[1]);
+    let v0 = reduce1(vals, weights, strides, at[0]);
+    let v1 = reduce1(vals, weights, strides, at[1]);
+    let v2 = reduce1(vals, weights, strides, at[2]);
+    let v3 = reduce1(vals, weights, strides, at[3]);
     dot4(weights[1], [v0, v1, v2, v3])
 }
 
@@ -60,11 +66,11 @@ pub fn reduce3(vals: &[f64], weights: [[f64; 4]; 4], strides: [usize; 4], base: 
     requires { ⌜ base + 3 * getD strides 0 0 + 3 * getD strides 1 0 + 3 * getD strides 2 0 < length (now vals) ⌝ }
     ensures { λ r. ⌜ r ≡ reduceOf binary64 (take 3 weights) (from (now (vals .entry)) strides base) ⌝ }
 {
-    let s2 = strides[2];
-    let v0 = reduce2(vals, weights, strides, base);
-    let v1 = reduce2(vals, weights, strides, base + s2);
-    let v2 = reduce2(vals, weights, strides, base + 2 * s2);
-    let v3 = reduce2(vals, weights, strides, base + 3 * s2);
+    let at = along(base, strides[2]);
+    let v0 = reduce2(vals, weights, strides, at[0]);
+    let v1 = reduce2(vals, weights, strides, at[1]);
+    let v2 = reduce2(vals, weights, strides, at[2]);
+    let v3 = reduce2(vals, weights, strides, at[3]);
     dot4(weights[2], [v0, v1, v2, v3])
 }
 
@@ -72,10 +78,10 @@ pub fn reduce4(vals: &[f64], weights: [[f64; 4]; 4], strides: [usize; 4], base: 
     requires { ⌜ base + 3 * getD strides 0 0 + 3 * getD strides 1 0 + 3 * getD strides 2 0 + 3 * getD strides 3 0 < length (now vals) ⌝ }
     ensures { λ r. ⌜ r ≡ reduceOf binary64 (take 4 weights) (from (now (vals .entry)) strides base) ⌝ }
 {
-    let s3 = strides[3];
-    let v0 = reduce3(vals, weights, strides, base);
-    let v1 = reduce3(vals, weights, strides, base + s3);
-    let v2 = reduce3(vals, weights, strides, base + 2 * s3);
-    let v3 = reduce3(vals, weights, strides, base + 3 * s3);
+    let at = along(base, strides[3]);
+    let v0 = reduce3(vals, weights, strides, at[0]);
+    let v1 = reduce3(vals, weights, strides, at[1]);
+    let v2 = reduce3(vals, weights, strides, at[2]);
+    let v3 = reduce3(vals, weights, strides, at[3]);
     dot4(weights[3], [v0, v1, v2, v3])
 }

@@ -2,9 +2,9 @@
 use mathlib.Core.Path.{_≡_, refl, sym, ap, _∙_}
 use mathlib.Core.Bool.{Bool}
 use mathlib.Core.List.{List}
-use Prim.Native.Nat.{_+_, _-_, _*_, _≤_, _<_}
+use Prim.Native.Nat.{ℕ, _+_, _-_, _*_, _≤_, _<_}
 use native.Mathlib.Omega.{arith}
-use lib.ListN.{length, getD, take}
+use lib.ListN.{length, getD, take, length-map}
 use lib.Ieee.{Float, nan, binary64, ofBits}
 use denote.Ref.{now}
 use Rattle.ieee.specs.Numbers.{zero as nought}
@@ -12,8 +12,11 @@ use Rattle.multicubic.specs.declared.Loc.the-variants.{At}
 use Rattle.multicubic.specs.declared.Outcome.{Outcome}
 use Rattle.multicubic.specs.Answers.{answered}
 use Rattle.multicubic.specs.Grid.{sum}
-use Rattle.multicubic.specs.Place.{straightOf}
-use Rattle.grid.specs.Query.{GridAxis}
+use Rattle.multicubic.specs.Place.{straightOf, Placed}
+use Rattle.reduction.specs.Value.{stridesOf, offset, shifted}
+use Rattle.reduction.specs.Internal.{indexAt}
+use Rattle.reduction.proofs.Reduction.{read-at}
+use Rattle.grid.specs.Query.{GridAxis, countsOf, originsOf}
 use Rattle.grid.specs.Internal.{rowAt, noAxis as noGridAxis}
 use Rattle.grid.proofs.Edges.{own-loc, own-row}
 use Rattle.grid.proofs.Fit.{Fit}
@@ -45,6 +48,16 @@ module _ (c : tie.At-loop Inv-loop μ-loop) where
 
   abbrev given : Float
   given = getD (now (c .before .before .before .before .before .args .queries)) (c .loop .at) nan
+
+  -- clause 5.5: where no axis is left, the value that the reduction reads for js stands at the sum of (origin + j) × stride
+  read-here : c .before .before .before .before .before .args .axis-count ≤ c .loop .axis → (js : List ℕ) → length js ≡ c .before .before .before .before .before .args .axis-count → indexAt (c .loop .base) (c .before .before .before .before .before .args .t6) js ≡ offset (shifted (originsOf (c .loop .inv .6 .pass .so-far .ps)) js) (stridesOf (countsOf (axesIn binary64 (c .before .before .before .before .before .args .mode) (c .before .before .before .before .before .args .axis-count) (c .before .before .before .before .before .args .t2) (now (c .before .before .before .before .before .args .axes)))))
+  read-here h js n =
+      let t = c .loop .inv .6 in
+      let ps = t .pass .so-far .ps in
+      let few = c .loop .inv .1 in
+      let done : c .loop .axis ≡ c .before .before .before .before .before .args .axis-count = omega (arith, c .loop .inv .0) in
+      let counted = length-map ps (λ (p : Placed). p .place .origin) ∙ t .pass .so-far .many ∙ done in
+      read-at (c .before .before .before .before .before .args .axis-count) (c .loop .base) (originsOf ps) js (c .before .before .before .before .before .args .t6) counted n (omega (arith, t .four)) (t .pass .base-is) ∙ ap (offset (shifted (originsOf ps) js)) (t .spaced)
 
   module _ (h : c .loop .axis < c .before .before .before .before .before .args .axis-count) where
     ends : c .loop .start + getD (c .before .before .before .before .before .args .t2) (c .loop .axis) 0 ≤ length (now (c .before .before .before .before .before .args .axes))
@@ -148,12 +161,6 @@ module _ (c : tie.After-row-at Inv-loop μ-loop) where
   small : head .loop .base + c .before .before .before .before .loc .given .0 .0 .origin * getD (head .before .before .before .before .before .args .t6) (head .loop .axis) 0 < 1048576
   small = turn-small (fits head) (head .loop .inv .6) left (own head left) (same head left) _ found
 
-mul-base : tie.Need-mul-base Inv-loop μ-loop
-mul-base c = omega (arith, small c)
-
-add-base : tie.Need-add-base Inv-loop μ-loop
-add-base c = omega (arith, small c)
-
 add-at : tie.Need-add-at Inv-loop μ-loop
 add-at c = omega (arith, turn-room (fits (head c)) (head c .loop .inv .6) (left c), head c .before .before .before .before .before .good)
 
@@ -236,8 +243,8 @@ answer-at-spec =
     (λ c. omega arith)
     (λ c. omega arith)
     (λ c. omega arith)
-    mul-base
-    add-base
+    (λ c. omega (arith, small c))
+    (λ c. omega (arith, small c))
     add-at
     (λ c. omega arith)
     (λ c. omega arith)

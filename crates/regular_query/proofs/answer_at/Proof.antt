@@ -1,17 +1,21 @@
 -- `answer_at`: each turn puts one axis more into the pass, and the reduction over all of them gives what is asked.
 use mathlib.Core.Path.{_≡_, refl, sym, ap, _∙_}
 use mathlib.Core.Bool.{Bool}
-use Prim.Native.Nat.{_+_, _-_, _*_, _≤_, _<_}
+use mathlib.Core.List.{List}
+use Prim.Native.Nat.{ℕ, _+_, _-_, _*_, _≤_, _<_}
 use native.Mathlib.Omega.{arith}
-use lib.ListN.{length, getD}
+use lib.ListN.{length, getD, length-map}
 use lib.Ieee.{Float, nan, binary64, ofBits}
 use denote.Ref.{now}
 use Rattle.ieee.specs.Numbers.{zero as nought}
 use Rattle.multicubic.specs.declared.Loc.the-variants.{At}
 use Rattle.multicubic.specs.declared.Outcome.{Outcome}
 use Rattle.multicubic.specs.Answers.{answered}
-use Rattle.multicubic.specs.Place.{straightOf}
-use Rattle.grid.specs.Query.{GridAxis}
+use Rattle.multicubic.specs.Place.{straightOf, Placed}
+use Rattle.reduction.specs.Value.{stridesOf, offset, shifted}
+use Rattle.reduction.specs.Internal.{indexAt}
+use Rattle.reduction.proofs.Reduction.{read-at}
+use Rattle.grid.specs.Query.{GridAxis, countsOf, originsOf}
 use Rattle.grid.specs.Internal.{rowAt, noAxis as noGridAxis}
 use Rattle.grid.proofs.Edges.{own-loc, own-row}
 use Rattle.grid.proofs.Fit.{Fit}
@@ -53,6 +57,16 @@ module _ (c : tie.At-loop Inv-loop μ-loop) where
 
   same : c .loop .axis < c .before .before .before .before .args .axis-count → own ≡ getD (axesIn binary64 (c .before .before .before .before .args .mode) (c .before .before .before .before .args .axis-count) (c .before .before .before .before .args .t2)) (c .loop .axis) noGridAxis
   same h = axis-is binary64 (c .before .before .before .before .args .mode) (c .loop .inv .2) (taken-of (c .loop .inv .3)) (c .loop .axis) h
+
+  -- clause 5.5: where no axis is left, the value that the reduction reads for js stands at the sum of (origin + j) × stride
+  read-here : c .before .before .before .before .args .axis-count ≤ c .loop .axis → (js : List ℕ) → length js ≡ c .before .before .before .before .args .axis-count → indexAt (c .loop .base) (c .before .before .before .before .args .t5) js ≡ offset (shifted (originsOf (c .loop .inv .5 .pass .so-far .ps)) js) (stridesOf (countsOf (axesIn binary64 (c .before .before .before .before .args .mode) (c .before .before .before .before .args .axis-count) (c .before .before .before .before .args .t2))))
+  read-here h js n =
+      let t = c .loop .inv .5 in
+      let ps = t .pass .so-far .ps in
+      let few = c .loop .inv .1 in
+      let done : c .loop .axis ≡ c .before .before .before .before .args .axis-count = omega (arith, c .loop .inv .0) in
+      let counted = length-map ps (λ (p : Placed). p .place .origin) ∙ t .pass .so-far .many ∙ done in
+      read-at (c .before .before .before .before .args .axis-count) (c .loop .base) (originsOf ps) js (c .before .before .before .before .args .t5) counted n (omega (arith, t .four)) (t .pass .base-is) ∙ ap (offset (shifted (originsOf ps) js)) (t .spaced)
 
 loop-holds : tie.Need-loop-holds Inv-loop μ-loop
 loop-holds c =
@@ -112,12 +126,6 @@ module _ (c : tie.After-row-at Inv-loop μ-loop) where
   -- the index of the block's first value stays small
   small : head .loop .base + c .before .before .before .before .loc .given .0 .0 .origin * getD (head .before .before .before .before .args .t5) (head .loop .axis) 0 < 1048576
   small = turn-small (fits head) (head .loop .inv .5) left (own head) (same head left) _ found
-
-mul-base : tie.Need-mul-base Inv-loop μ-loop
-mul-base c = omega (arith, small c)
-
-add-base : tie.Need-add-base Inv-loop μ-loop
-add-base c = omega (arith, small c)
 
 add-at : tie.Need-add-at Inv-loop μ-loop
 add-at c = omega (arith, turn-room (fits (head c)) (head c .loop .inv .5) (left c), head c .before .before .before .before .good)
@@ -189,8 +197,8 @@ answer-at-spec =
     (λ c. omega arith)
     (λ c. omega arith)
     (λ c. omega arith)
-    mul-base
-    add-base
+    (λ c. omega (arith, small c))
+    (λ c. omega (arith, small c))
     add-at
     (λ c. omega arith)
     (λ c. omega arith)
