@@ -15,10 +15,12 @@ use Rattle.multicubic.specs.Place.{straightOf, Placed}
 use Rattle.reduction.specs.Value.{stridesOf, offset, shifted}
 use Rattle.reduction.specs.Internal.{indexAt}
 use Rattle.reduction.proofs.Reduction.{read-at}
-use Rattle.grid.specs.Query.{GridAxis, countsOf, originsOf}
+use Rattle.grid.specs.Query.{GridAxis, countsOf, places, originsOf}
+use Rattle.grid.specs.Batch.{queryAt, foundAt}
 use Rattle.grid.specs.Internal.{rowAt, noAxis as noGridAxis}
 use Rattle.grid.proofs.Edges.{own-loc, own-row}
 use Rattle.grid.proofs.Fit.{Fit}
+use Rattle.grid.proofs.Locating.{so-far-all}
 use Rattle.grid.proofs.Answering.{Turn, turn-none, turn-room, turn-refused, turn-small, turn-next, turn-reach, turn-value}
 use Rattle.regular_query.specs.Grid.{gridAxis, axisIn, axesIn}
 use Rattle.regular_query.specs.Internal.{Ready}
@@ -57,16 +59,6 @@ module _ (c : tie.At-loop Inv-loop μ-loop) where
 
   same : c .loop .axis < c .before .before .before .before .args .axis-count → own ≡ getD (axesIn binary64 (c .before .before .before .before .args .mode) (c .before .before .before .before .args .axis-count) (c .before .before .before .before .args .t2)) (c .loop .axis) noGridAxis
   same h = axis-is binary64 (c .before .before .before .before .args .mode) (c .loop .inv .2) (taken-of (c .loop .inv .3)) (c .loop .axis) h
-
-  -- clause 5.5: where no axis is left, the value that the reduction reads for js stands at the sum of (origin + j) × stride
-  read-here : c .before .before .before .before .args .axis-count ≤ c .loop .axis → (js : List ℕ) → length js ≡ c .before .before .before .before .args .axis-count → indexAt (c .loop .base) (c .before .before .before .before .args .t5) js ≡ offset (shifted (originsOf (c .loop .inv .5 .pass .so-far .ps)) js) (stridesOf (countsOf (axesIn binary64 (c .before .before .before .before .args .mode) (c .before .before .before .before .args .axis-count) (c .before .before .before .before .args .t2))))
-  read-here h js n =
-      let t = c .loop .inv .5 in
-      let ps = t .pass .so-far .ps in
-      let few = c .loop .inv .1 in
-      let done : c .loop .axis ≡ c .before .before .before .before .args .axis-count = omega (arith, c .loop .inv .0) in
-      let counted = length-map ps (λ (p : Placed). p .place .origin) ∙ t .pass .so-far .many ∙ done in
-      read-at (c .before .before .before .before .args .axis-count) (c .loop .base) (originsOf ps) js (c .before .before .before .before .args .t5) counted n (omega (arith, t .four)) (t .pass .base-is) ∙ ap (offset (shifted (originsOf ps) js)) (t .spaced)
 
 loop-holds : tie.Need-loop-holds Inv-loop μ-loop
 loop-holds c =
@@ -136,6 +128,22 @@ loop-again c =
     let row = own-row (l .before .before .before .before .args .mode) (line l) (given l) _ _ (c .before .before .before .before .before .before .before .before .before .before .replaced-at .ensures) (c .before .before .before .before .before .before .before .before .hold .ensures) _ (l .loop .inv .4) _ (c .before .before .before .before .loc .given .0 .0) (c .before .before .is-component .result) (c .row-at .ensures) in
     let asked = ap (rowAt (own l) (given l) (c .before .before .before .before .loc .given .0 .0)) (c .before .before .is-component .ensures) in
     (omega (arith, left c), l .loop .inv .1, l .loop .inv .2, l .loop .inv .3, l .loop .inv .4, turn-next (fits l) (l .loop .inv .5) (left c) (own l) (same l (left c)) _ (found c) _ (row ∙ asked))
+
+-- clause 5.5: no axis is left, and ps are the query's places. The value that the reduction reads for js stands at the sum of (origin + j) × stride
+module _ (c : tie.At-loop Inv-loop μ-loop) (h : c .before .before .before .before .args .axis-count ≤ c .loop .axis) where
+  abbrev gs : List GridAxis
+  gs = axesIn binary64 (c .before .before .before .before .args .mode) (c .before .before .before .before .args .axis-count) (c .before .before .before .before .args .t2)
+
+  read-here : (ps : List Placed) → foundAt gs (c .before .before .before .before .args .count) (now (c .before .before .before .before .args .queries)) (c .before .before .before .before .args .i) ≡ places ps → (js : List ℕ) → length js ≡ c .before .before .before .before .args .axis-count → indexAt (c .loop .base) (c .before .before .before .before .args .t5) js ≡ offset (shifted (originsOf ps) js) (stridesOf (countsOf gs))
+  read-here ps found js n =
+      let turn = c .loop .inv .5 in
+      let few = c .loop .inv .1 in
+      let done : c .loop .axis ≡ c .before .before .before .before .args .axis-count = omega (arith, c .loop .inv .0) in
+      let all = so-far-all gs (queryAt (c .before .before .before .before .args .count) (now (c .before .before .before .before .args .queries)) (c .before .before .before .before .args .i)) (c .loop .axis) (turn .pass .so-far) (done ∙ sym (fits c .counted)) in
+      let same : turn .pass .so-far .ps ≡ ps = cc in
+      let counted = length-map ps (λ (p : Placed). p .place .origin) ∙ ap length (sym same) ∙ turn .pass .so-far .many ∙ done in
+      let base = turn .pass .base-is ∙ ap (λ (l : List Placed). offset (originsOf l) (c .before .before .before .before .args .t5)) same in
+      read-at (c .before .before .before .before .args .axis-count) (c .loop .base) (originsOf ps) js (c .before .before .before .before .args .t5) counted n (omega (arith, turn .four)) base ∙ ap (offset (shifted (originsOf ps) js)) (turn .spaced)
 
 reduce3-requires : tie.Need-reduce3-requires Inv-loop μ-loop
 reduce3-requires c κs = turn-reach (fits (c .before .before)) (c .before .before .loop .inv .5) (c .before .loop-test .left) .2 (c .if1 .taken)
