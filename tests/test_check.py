@@ -1,0 +1,153 @@
+"""veltzuma check: every refusal of a grid in words with its line, and the premises of the node rule on both sides of each bound."""
+import unittest
+
+from support import InFolder, SAMPLES, run, table
+
+
+def line_of(text, start, nth=1):
+    return [i + 1 for i, line in enumerate(text.split('\n')) if line.startswith(start)][nth - 1]
+
+
+class Refusals(InFolder):
+    def refused(self, text, line, said, width='f64'):
+        path = self.write(text)
+        self.assertEqual(run('check', path, '--width', width), (1, f'{path}:{line}: {said}\n', ''))
+        for words in (['eval', path, '--at', '1'], ['nodes', path], ['plot', path, '--along', '0', '-o', path + '.svg']):
+            if words[0] == 'eval':
+                words[-1] = ','.join(['1'] * text.count('axis:'))
+            if words[0] != 'nodes' and 'axis:' not in text:
+                continue
+            self.assertOneLine(run(*words, '--width', width), 1, f'{path}:{line}: {said}')
+
+    def test_1_axes(self):
+        axes = [(f'a{i}', [0, 1, 2, 3]) for i in range(5)]
+        text = table(axes, lambda *_: 1)
+        self.refused(text, line_of(text, 'axis: a4'), 'refused 1 (axes): 5 axes, where a table has 1 to 4')
+        text = table([], [['1']])
+        self.refused(text, text.count('\n'), 'refused 1 (axes): 0 axes, where a table has 1 to 4')
+
+    def test_2_size(self):
+        text = table([('a', list(range(4097)))], lambda i: i)
+        self.refused(text, line_of(text, 'entries'), "refused 2 (size): axis 0 'a' has 4,097 entries, where an axis has at most 4,096")
+        text = table([('a', 0, 1, 4), ('b', 0, 1, 4097)], [['1']], 'regular')
+        self.refused(text, line_of(text, 'count', 2), "refused 2 (size): axis 1 'b' has 4,097 entries, where an axis has at most 4,096")
+        text = table([('a', 0, 1, 1024), ('b', 0, 1, 1025)], [['1']], 'regular')
+        self.refused(text, line_of(text, 'axis: b'), 'refused 2 (size): 1,024 × 1,025 = 1,049,600 points, where a table has at most 1,048,576')
+        text = table([('a', 0, 1, 18446744073709551615)], [['1']], 'regular')
+        self.refused(text, line_of(text, 'count'), "refused 2 (size): axis 0 'a' has 18,446,744,073,709,551,615 entries, where an axis has at most 4,096")
+
+    def test_3_mismatch(self):
+        axes = [('a', [0, 1, 2, 3]), ('b', [0, 1, 2, 3, 4])]
+        rows = [['1'] * 5 for _ in range(4)]
+        rows[2] = ['1'] * 4
+        text = table(axes, rows)
+        self.refused(text, line_of(text, 'values') + 3, "refused 3 (mismatch): 4 values in this row, where axis 1 'b' has 5 entries; 19 values in all, "
+                     'and 4 × 5 = 20 are needed')
+        rows[2] = ['1', '2', '5', '3', '4', '5']
+        text = table(axes, rows)
+        self.refused(text, line_of(text, 'values') + 3, "refused 3 (mismatch): 6 values in this row, where axis 1 'b' has 5 entries; 21 values in all, "
+                     'and 4 × 5 = 20 are needed; a decimal comma makes two values of one')
+        text = table(axes, [['1'] * 5 for _ in range(3)])
+        self.refused(text, text.count('\n'), 'refused 3 (mismatch): 15 values, where 4 × 5 = 20 are needed')
+
+    def test_rows_that_make_up_for_each_other(self):
+        rows = [['1'] * 5, ['1'] * 4, ['1'] * 6, ['1'] * 5]
+        text = table([('a', [0, 1, 2, 3]), ('b', [0, 1, 2, 3, 4])], rows)
+        path = self.write(text)
+        self.assertOneLine(run('check', path), 2, f'{path}:{line_of(text, "values") + 2}: 4 values in a row, where axis \'b\' has 5 entries')
+
+    def test_4_short(self):
+        text = table([('a', [0, 1, 2, 3]), ('b', [0, 1, 2])], lambda *_: 1)
+        self.refused(text, line_of(text, 'entries', 2), "refused 4 (short): axis 1 'b' has 3 entries, where an axis has at least 4")
+
+    def test_5_not_rising(self):
+        text = table([('a', 0, 1, 4), ('b', 0, 'nan', 4)], lambda *_: 1, 'regular')
+        self.refused(text, line_of(text, 'step', 2), "refused 5 (not rising): axis 1 'b': its step, nan, is not above 0")
+        text = table([('a', [0.5, 0.5, 2, 3])], lambda *_: 1)
+        self.refused(text, line_of(text, 'entries'), "refused 5 (not rising): axis 0 'a', entry 1: 0.5 is not above the entry before it, 0.5")
+
+    def test_6_disorder(self):
+        text = table([('flow', [0, 1, 2, 3]), ('pressure', [0, 1, 2, 2.5, 3, 3.3, 3.4, 3.2])], lambda *_: 1)
+        self.refused(text, line_of(text, 'entries', 2), "refused 6 (disorder): axis 1 'pressure', entry 7: 3.2 is below the entry before it, 3.4")
+        text = table([('a', [0, 1, 1, 0.5])], lambda *_: 1)
+        self.refused(text, line_of(text, 'entries'), "refused 6 (disorder): axis 0 'a', entry 3: 0.5 is below the entry before it, 1")
+        text = table([('a', [0, 1, 'nan', 3])], lambda *_: 1)
+        self.refused(text, line_of(text, 'entries'), "refused 6 (disorder): axis 0 'a', entry 2 is not a number, nan")
+
+    def test_in_f32_alone(self):
+        """Two entries that f32 does not tell apart."""
+        text = table([('a', [1, 1.00000001, 2, 3])], lambda *_: 1)
+        self.assertEqual(run('check', self.write(text))[0], 0)
+        self.refused(text, line_of(text, 'entries'), "refused 5 (not rising): axis 0 'a', entry 1: 1 is not above the entry before it, 1", 'f32')
+
+
+class Premises(InFolder):
+    def told(self, text, width):
+        path = self.write(text)
+        status, out, err = run('check', path, '--width', width)
+        self.assertEqual((status, err), (0, ''))
+        lines = out.rstrip('\n').split('\n')
+        self.assertIn(f'{path}: taken, in {width}: ', lines[0])
+        return [line.replace(path, 'T') for line in lines[1:]]
+
+    def within(self, text, *widths):
+        for width in widths or ('f64', 'f32'):
+            self.assertEqual(self.told(text, width), [f'T: within the premises of the node rule, in {width}: each stored point answers its own number'])
+
+    def outside(self, text, start, said, *widths):
+        line = line_of(text, *start) if isinstance(start, tuple) else line_of(text, start)
+        for width in widths or ('f64', 'f32'):
+            self.assertEqual(self.told(text, width), [f'T:{line}: outside the premises of the node rule, in {width}: {said}'])
+
+    def test_samples(self):
+        for path in SAMPLES:
+            for width in ('f64', 'f32'):
+                status, out, _ = run('check', path, '--width', width)
+                self.assertEqual(status, 0)
+                self.assertIn(f'within the premises of the node rule, in {width}', out)
+
+    def test_gaps(self):
+        least, most = 2.0 ** -20, 2 ** 20
+        self.within(table([('a', [0, least, 1, 1 + most])], lambda i: i))
+        self.outside(table([('a', [0, 1, 1 + 2.0 ** -21, 3])], lambda i: i), 'entries',
+                     "axis 0 'a', entry 2: its gap to the entry before it, 4.76837158203125e-07, is below 2^-20", 'f64')
+        self.outside(table([('a', [0, 1, 2, 2.0 ** 20 + 3])], lambda i: i), 'entries',
+                     "axis 0 'a', entry 3: its gap to the entry before it, 1048577, is above 2^20")
+        # Equal neighbours are accepted, and their gap is 0.
+        self.outside(table([('a', [0, 1, 1, 3, 3])], lambda i: i), 'entries',
+                     "axis 0 'a', entry 2: its gap to the entry before it, 0, is below 2^-20; so are 1 more")
+        self.outside(table([('a', [0, 1, 2, 'inf'])], lambda i: i), 'entries', "axis 0 'a', entry 3: its gap to the entry before it, inf, is above 2^20")
+
+    def test_gaps_are_rounded_in_the_width(self):
+        """A difference of 2^20 + 0.01, which f32 rounds to 2^20."""
+        text = table([('a', [-1, '-0.97', '1048575.04', 2 ** 20 + 1])], lambda i: i)
+        self.within(text, 'f32')
+        self.outside(text, 'entries', "axis 0 'a', entry 2: its gap to the entry before it, 1048576.01, is above 2^20", 'f64')
+
+    def test_steps_and_starts(self):
+        for step in (2.0 ** -20, 1, 2 ** 20):
+            for steps in (0, 1, -2 ** 20, 2 ** 20):
+                self.within(table([('a', steps * step, step, 4)], lambda i: i, 'regular'))
+        self.within(table([('a', '-0', 1, 4)], lambda i: i, 'regular'))
+        for start, step, line, said in (
+                (0, 2.0 ** -21, 'step', 'its step, 4.76837158203125e-07, is below 2^-20'), (0, 2 ** 21, 'step', 'its step, 2097152, is above 2^20'),
+                (0, 0.75, 'step', 'its step, 0.75, is not a power of two'), (0, 'inf', 'step', 'its step, inf, is not a power of two'),
+                (0.5, 1, 'start', 'its start, 0.5, is not a whole number of steps of 1'), ('nan', 1, 'start', 'its start, nan, is not a whole number of steps of 1'),
+                ('5e-324', 2, 'start', 'its start, 5e-324, is not a whole number of steps of 2'),
+                ('1e308', 2.0 ** -20, 'start', 'its start, 1e+308, is more than 2^20 steps of 9.5367431640625e-07 from 0'),
+                (2 ** 20 + 1, 1, 'start', 'its start, 1048577, is more than 2^20 steps of 1 from 0'),
+                (-2 ** 20 - 1, 1, 'start', 'its start, -1048577, is more than 2^20 steps of 1 from 0')):
+            self.outside(table([('a', start, step, 4)], lambda i: i, 'regular'), line, f"axis 0 'a': {said}", 'f64')
+        self.outside(table([('a', 0, 1, 4), ('b', 0, 0.1, 4)], lambda *_: 1, 'regular'), ('step', 2), "axis 1 'b': its step, 0.1, is not a power of two")
+
+    def test_values(self):
+        axes = [('a', [0, 1, 2, 3]), ('b', [0, 1, 2, 3.5])]
+        self.outside(table(axes, lambda i, j: 'nan' if i == 2 else i), 'nan',
+                     "the value at entries 2, 0 ('a' 2, 'b' 0) is nan, not a finite number; so are 3 more")
+        text = table(axes, lambda i, j: '1e39' if (i, j) == (1, 3) else i)
+        self.within(text, 'f64')
+        self.outside(text, '1,1,1,1e39', "the value at entries 1, 3 ('a' 1, 'b' 3.5) is inf, not a finite number", 'f32')
+
+
+if __name__ == '__main__':
+    unittest.main()
