@@ -192,19 +192,19 @@ class Gate(Copy):
             os.rename(os.path.join(self.folder, name), os.path.join(self.bin, name))
 
     def test_each_step_of_the_tests(self):
-        """The library, the examples and the tests themselves: where one fails, tests/run does."""
+        """The f32 crates, the library, the examples and the tests themselves: where one fails, tests/run does."""
         done = subprocess.run(['tests/run'], cwd=self.top, stdout=subprocess.PIPE, stderr=subprocess.STDOUT, env=self.environment(CHECKED='1'))
         self.assertEqual(done.returncode, 2)
         self.assertIn(b'the library is not built', done.stdout)
-        for name, text in (('examples/run.sh', '#!/bin/sh\nexit 5\n'), ('tests/test_numbers.py', 'import sys\nsys.exit(1)\n'),
+        for name, text in (('tools/width', '#!/bin/sh\nexit 4\n'), ('examples/run.sh', '#!/bin/sh\nexit 5\n'), ('tests/test_numbers.py', 'import sys\nsys.exit(1)\n'),
                            ('tests/test_numbers.py', 'import unittest\nclass A(unittest.TestCase):\n    def test(self):\n        self.fail()\n')):
-            shutil.copy(os.path.join(TOP, 'examples', 'run.sh'), os.path.join(self.top, 'examples', 'run.sh'))
-            if not name.startswith('examples'):
+            shutil.copy(os.path.join(TOP, 'tools', 'width'), os.path.join(self.top, 'tools', 'width'))
+            if name.startswith('tests'):
                 with open(os.path.join(self.top, 'examples', 'run.sh'), 'w') as out:
                     out.write('#!/bin/sh\n')
             with open(os.path.join(self.top, name), 'w') as out:
                 out.write(text)
-            done = subprocess.run(['tests/run'], cwd=self.top, stdout=subprocess.PIPE, stderr=subprocess.STDOUT, env=self.environment(TESTS='test_numbers'))
+            done = subprocess.run(['tests/run', 'test_numbers'], cwd=self.top, stdout=subprocess.PIPE, stderr=subprocess.STDOUT, env=self.environment())
             self.assertNotEqual(done.returncode, 0, done.stdout)
             self.assertNotIn(b'every test held', done.stdout)
 

@@ -6,6 +6,8 @@ import io
 import math
 import unicodedata
 
+import veltzuma
+
 from . import floats
 
 MARK = 'veltzuma table 1'
@@ -103,24 +105,21 @@ def numbers_in(text, where, line, width):
 
 
 class Axis:
-    """One axis as the file has it."""
+    """One axis as the file has it, in one width."""
 
-    def __init__(self, name, line):
-        self.name, self.line, self.unit = name, line, None
+    def __init__(self, name, line, width):
+        self.name, self.line, self.width, self.unit = name, line, width, None
         self.start = self.step = self.count = None
         self.listed = None
         self.lines = {}
-
-    def complete(self, width):
-        self.width = width
 
     @functools.cached_property
     def entries(self):
         """The nodes: of a regular axis, start + step * k, each operation rounded in the width. Of an axis that is too long, the first of them."""
         if self.listed is not None:
             return self.listed
-        width = self.width
-        return [floats.round_to(self.start + floats.round_to(self.step * k, width), width) for k in range(min(self.count, MOST_ENTRIES))]
+        steps = (floats.round_to(self.step * k, self.width) for k in range(min(self.count, MOST_ENTRIES)))
+        return [floats.round_to(self.start + part, self.width) for part in steps]
 
 
 class Table:
@@ -140,7 +139,6 @@ class Table:
 
     def grid(self, library):
         """The grid as the library takes it."""
-        import veltzuma
         if self.kind == 'regular':
             return veltzuma.MulticubicRegular(self.counts, [axis.start for axis in self.axes], [axis.step for axis in self.axes], self.vals,
                                               self.width, library=library)
@@ -252,7 +250,7 @@ class _Reading:
             self.close_axis()
             if len(table.axes) == MOST_AXES:
                 self.bad(line, f'more than {MOST_AXES} axes, where a table has 1 to 4')
-            self.axis = self.unit_of = Axis(self.name(line, rest), line)
+            self.axis = self.unit_of = Axis(self.name(line, rest), line, self.width)
             table.axes.append(self.axis)
         elif key == 'value':
             self.close_axis()
@@ -311,7 +309,6 @@ class _Reading:
         for key in ('unit', 'start', 'step', 'count') if self.table.kind == 'regular' else ('unit', 'listed'):
             if getattr(axis, key) is None:
                 self.bad(axis.line, f"axis '{axis.name}' has no '{'entries' if key == 'listed' else key}:'")
-        axis.complete(self.width)
 
     def close(self):
         if not self.in_values:

@@ -52,7 +52,7 @@ def page(tables, library, total, mode):
            '<meta name="viewport" content="width=device-width, initial-scale=1">',
            f'<title>{escaped(title)}</title>', f'<style>{STYLE}</style>', '</head>', '<body>', f'<h1>{escaped(title)}</h1>']
     out += [f'<p>{escaped(note)}</p>' for note in table.notes]
-    out += _verdict(tables, verdicts)
+    out += _verdict(verdicts)
     out += _axes(table)
     if 'f64' in grids:
         out += _plots(table, grids['f64'], mode)
@@ -62,7 +62,7 @@ def page(tables, library, total, mode):
     return '\n'.join(out + ['</body>', '</html>']) + '\n', 'f64' not in grids
 
 
-def _verdict(tables, verdicts):
+def _verdict(verdicts):
     """The verdict of `new` and the premises of the node rule, in both widths."""
     good = [width for width, (verdict, _, _) in verdicts.items() if verdict == 'taken']
     within = [width for width in good if not verdicts[width][2]]
@@ -157,21 +157,23 @@ def _figures(table):
 
 def _proved(table, verdicts):
     within = [width for width, (verdict, _, outside) in verdicts.items() if verdict == 'taken' and not outside]
-    applies = f'This table is within them in {" and in ".join(within)}.' if within else 'This table is outside them, so nothing is claimed here of its stored points.'
+    applies = (f'This table is within them in {" and in ".join(within)}.' if within
+               else 'This table is outside them, so nothing is claimed here of its stored points.')
     block = ' × '.join(['4'] * len(table.axes)) if len(table.axes) in (1, 2, 3, 4) else '4 to each axis'
     proved = [
-        ('Any query.', 'Every call answers, or refuses with one of eight numbers; nothing overflows, and nothing outside of what it is given is read or written.',
-         '1.1 and 2.2', '“Any input”'),
-        ('Equal to the definitions.', 'Place, value and slope are, for every query, what the definitions give: each operation rounded by IEEE 754, in a stated order, in f64 '
-         'and in f32.', '3 to 7', '“Equal to the definitions”'),
-        ('Stored points.', f'Within the premises, a query at a stored point answers with the number stored there, +0 and −0 as one; alone, in a batch, and in each of the '
-         f'three settings past the ends. {applies}', '8.2 and 8.3', '“Nodes and blocks”'),
-        ('Only the block.', f'An answer depends on the block of {block} stored values around the query. Whatever stands elsewhere in the table cannot change it, neither '
-         'the value nor a slope.', '8.5', '“Nodes and blocks”'),
-        ('Held ends.', 'Within the premises and with held ends, a query that on each axis is at an entry or past an end answers with the number stored at those entries '
-         'and ends.', '8.6', '“Nodes and blocks”'),
+        ('Any query.', 'Every call answers, or refuses with one of eight numbers; nothing overflows, and nothing outside of what it is given is '
+         'read or written.', '1.1 and 2.2', '“Any input”'),
+        ('Equal to the definitions.', 'Place, value and slope are, for every query, what the definitions give: each operation rounded by '
+         'IEEE 754, in a stated order, in f64 and in f32.', '3 to 7', '“Equal to the definitions”'),
+        ('Stored points.', 'Within the premises, a query at a stored point answers with the number stored there, +0 and −0 as one; alone, in a '
+         f'batch, and in each of the three settings past the ends. {applies}', '8.2 and 8.3', '“Nodes and blocks”'),
+        ('Only the block.', f'An answer depends on the block of {block} stored values around the query. Whatever stands elsewhere in the table '
+         'cannot change it, neither the value nor a slope.', '8.5', '“Nodes and blocks”'),
+        ('Held ends.', 'Within the premises and with held ends, a query that on each axis is at an entry or past an end answers with the number '
+         'stored at those entries and ends.', '8.6', '“Nodes and blocks”'),
     ]
-    out = ['<section class="together">', '<h2>What is proved about every answer</h2>', '<p>Not sampled: each statement is a theorem about the reader’s own code, checked by the prover of the kit below.</p>', '<ul>']
+    out = ['<section class="together">', '<h2>What is proved about every answer</h2>',
+           '<p>Not sampled: each statement is a theorem about the reader’s own code, checked by the prover of the kit below.</p>', '<ul>']
     for name, text, clauses, section in proved:
         out.append(f'<li><b>{name}</b> {escaped(text)} <span class="small">(docs/SPECIFICATION.md {clauses}; docs/EVIDENCE.md, {section})</span></li>')
     out += ['</ul>', '<p><b>Not proved:</b> that the stored figures are what the pump delivers; this page and its plots, which a Python program wrote around the '
