@@ -1,4 +1,7 @@
-/* Veltzuma: value, gradient and place of a query on a cubic surface over a measured grid, for C.
+/* Veltzuma: value, gradient and place of a query on a cubic surface over a measured grid, for C. This header is of version 2.
+ * Compile every program again with it: the declarations of versions before differ, and a call compiled with them hands over a
+ * wild pointer where the marks go. Declarations by hand in other languages must follow. A program compares veltzuma_version()
+ * with VELTZUMA_VERSION before its other calls; an archive of a version before has no such call, and does not link.
  *
  * The archives are libcapi.a (`rt staticlib capi`) and, for single precision, libcapi_f32.a (`rt staticlib capi_f32`), for x86-64. Link them
  * as they are; they need no other library.
@@ -18,14 +21,15 @@
  *   4  an axis under 4 entries                                                     axis: the lowest such
  *   5  regular: a step is not above 0; rectilinear: entry 1 is not above entry 0   axis: the lowest such
  *   6  rectilinear: an entry is NaN or below the one before it                     axis: the lowest such
- *   7  more than 1,048,576 queries; queries or out of a wrong length; or refusal, origins, classes, value or gradient too short
+ *   7  more than 1,048,576 queries; queries or out of a wrong length; or refusal, origins, classes, value, gradient or marks
+ *      too short
  *   8  regular: a query has no place, since (query - start) / step is NaN, infinite, at least 2^63 or below -2^63
  *                                                                                  query: the lowest such; axis: its lowest
  *
  * The checks run in this order, each over all axes before the next. refusal[0] receives the query and refusal[1] the axis; both
- * are 0 where the table names none. On 7 nothing at all is written. value, gradient, origins and classes are written on 0 alone:
- * the first entry of value, the first axis_count entries of the others. On 8 a batch holds the answers of the queries before the
- * refused one; every other entry is as it was, a NaN's payload too. Which payload a NaN has that is an answer is not said.
+ * are 0 where the table names none. On 7 nothing at all is written. value, gradient, origins, classes and marks are written on 0
+ * alone: the first entry of value, the first axis_count entries of the others. On 8 a batch holds the answers of the queries before
+ * the refused one; every other entry is as it was, a NaN's payload too. Which payload a NaN has that is an answer is not said.
  *
  * A grid. axis_count is 1 to 4. counts holds the number of entries of each axis.
  *   regular      axis i has the entries starts[i] + steps[i] * k for k from 0 to counts[i] - 1
@@ -36,11 +40,20 @@
  *   0  cubic     the cubic itself
  *   1  straight  a straight line, as with the original's linearize_extrapolation
  *   2  held      level from the end on: a coordinate below the axis's first entry or above its last is replaced by that entry before
- *                anything else is done with it. Number 8 and the place that get_loc tells are then those of the query so used
+ *                anything else is done with it. Number 8 and the place that get_loc tells are then those of the query so used;
+ *                the marks stay those of the query as given
  * A number above 2 names no mode, and nothing is answered in a mode that nobody named: it is refused with 3, looked at together
  * with slices that are too short. This 3 is ours, and not the mismatch of table 2.2 in docs/SPECIFICATION.md.
  *
  * A class is 0 None, 1 InsideLow, 2 OutsideLow, 3 InsideHigh, 4 OutsideHigh.
+ *
+ * A mark says whether the query lies past an end of an axis: 0 neither, 1 below the first entry, 2 above the last. get_loc,
+ * interp_one and interp_one_grad write one for each axis; the batches have none. It is of the query as given, in every mode.
+ * Query and entries are compared as numbers, the entries of a regular axis as rounded: a query at an end has no mark, a NaN has
+ * none, and an infinity that is answered has one where that end is finite. A mark is not a class: on the regular axis 0, 1, 2, 3
+ * the query 3 has the class OutsideHigh and the mark 0; at the first entry of a rectilinear axis the class is OutsideLow, the
+ * mark 0.
+ *
  * The queries of a batch are joined columns: the coordinates of all queries on axis 0, then on axis 1. */
 #ifndef VELTZUMA_H
 #define VELTZUMA_H
@@ -52,6 +65,10 @@
 #ifdef __cplusplus
 extern "C" {
 #endif
+
+/* The version that these declarations are of, and the one that the archive is of. */
+#define VELTZUMA_VERSION 2
+uint32_t veltzuma_version(void);
 
 #define VELTZUMA_REGULAR                                                                                                       \
     size_t axis_count, const size_t *counts, size_t counts_len, const double *starts, size_t starts_len, const double *steps,   \
@@ -65,24 +82,28 @@ extern "C" {
 uint8_t veltzuma_regular_new(VELTZUMA_REGULAR, size_t *refusal, size_t refusal_len);
 uint8_t veltzuma_rectilinear_new(VELTZUMA_RECTILINEAR, size_t *refusal, size_t refusal_len);
 
-/* The place of a query: the first index of its block of four, and its class, on each axis. x: axis_count coordinates. */
+/* The place of a query: the first index of its block of four, and its class, on each axis. x: axis_count coordinates; origins,
+ * classes and marks: axis_count entries. */
 uint8_t veltzuma_regular_get_loc(VELTZUMA_REGULAR, uint8_t mode, const double *x, size_t x_len, size_t *refusal,
-                                 size_t refusal_len, size_t *origins, size_t origins_len, uint8_t *classes, size_t classes_len);
+                                 size_t refusal_len, size_t *origins, size_t origins_len, uint8_t *classes, size_t classes_len,
+                                 uint8_t *marks, size_t marks_len);
 uint8_t veltzuma_rectilinear_get_loc(VELTZUMA_RECTILINEAR, uint8_t mode, const double *x, size_t x_len, size_t *refusal,
                                      size_t refusal_len, size_t *origins, size_t origins_len, uint8_t *classes,
-                                     size_t classes_len);
+                                     size_t classes_len, uint8_t *marks, size_t marks_len);
 
-/* The value at a query. value: 1 entry. */
+/* The value at a query. value: 1 entry; marks: axis_count entries. */
 uint8_t veltzuma_regular_interp_one(VELTZUMA_REGULAR, uint8_t mode, const double *x, size_t x_len, size_t *refusal,
-                                    size_t refusal_len, double *value, size_t value_len);
+                                    size_t refusal_len, double *value, size_t value_len, uint8_t *marks, size_t marks_len);
 uint8_t veltzuma_rectilinear_interp_one(VELTZUMA_RECTILINEAR, uint8_t mode, const double *x, size_t x_len, size_t *refusal,
-                                        size_t refusal_len, double *value, size_t value_len);
+                                        size_t refusal_len, double *value, size_t value_len, uint8_t *marks, size_t marks_len);
 
-/* The gradient at a query. gradient: axis_count entries. */
+/* The gradient at a query. gradient and marks: axis_count entries. */
 uint8_t veltzuma_regular_interp_one_grad(VELTZUMA_REGULAR, uint8_t mode, const double *x, size_t x_len, size_t *refusal,
-                                         size_t refusal_len, double *gradient, size_t gradient_len);
+                                         size_t refusal_len, double *gradient, size_t gradient_len, uint8_t *marks,
+                                         size_t marks_len);
 uint8_t veltzuma_rectilinear_interp_one_grad(VELTZUMA_RECTILINEAR, uint8_t mode, const double *x, size_t x_len, size_t *refusal,
-                                             size_t refusal_len, double *gradient, size_t gradient_len);
+                                             size_t refusal_len, double *gradient, size_t gradient_len, uint8_t *marks,
+                                             size_t marks_len);
 
 /* The values of a batch of out_len queries. queries: axis_count * out_len coordinates. */
 uint8_t veltzuma_regular_interp(VELTZUMA_REGULAR, uint8_t mode, const double *queries, size_t queries_len, size_t *refusal,
@@ -107,25 +128,30 @@ uint8_t veltzuma_rectilinear_interp_grad(VELTZUMA_RECTILINEAR, uint8_t mode, con
     size_t axis_count, const size_t *counts, size_t counts_len, const float *axes, size_t axes_len, const float *vals,         \
         size_t vals_len
 
+uint32_t veltzuma_version_f32(void);
+
 uint8_t veltzuma_regular_new_f32(VELTZUMA_REGULAR_F32, size_t *refusal, size_t refusal_len);
 uint8_t veltzuma_rectilinear_new_f32(VELTZUMA_RECTILINEAR_F32, size_t *refusal, size_t refusal_len);
 
 uint8_t veltzuma_regular_get_loc_f32(VELTZUMA_REGULAR_F32, uint8_t mode, const float *x, size_t x_len, size_t *refusal,
                                      size_t refusal_len, size_t *origins, size_t origins_len, uint8_t *classes,
-                                     size_t classes_len);
+                                     size_t classes_len, uint8_t *marks, size_t marks_len);
 uint8_t veltzuma_rectilinear_get_loc_f32(VELTZUMA_RECTILINEAR_F32, uint8_t mode, const float *x, size_t x_len, size_t *refusal,
                                          size_t refusal_len, size_t *origins, size_t origins_len, uint8_t *classes,
-                                         size_t classes_len);
+                                         size_t classes_len, uint8_t *marks, size_t marks_len);
 
 uint8_t veltzuma_regular_interp_one_f32(VELTZUMA_REGULAR_F32, uint8_t mode, const float *x, size_t x_len, size_t *refusal,
-                                        size_t refusal_len, float *value, size_t value_len);
+                                        size_t refusal_len, float *value, size_t value_len, uint8_t *marks, size_t marks_len);
 uint8_t veltzuma_rectilinear_interp_one_f32(VELTZUMA_RECTILINEAR_F32, uint8_t mode, const float *x, size_t x_len,
-                                            size_t *refusal, size_t refusal_len, float *value, size_t value_len);
+                                            size_t *refusal, size_t refusal_len, float *value, size_t value_len,
+                                            uint8_t *marks, size_t marks_len);
 
 uint8_t veltzuma_regular_interp_one_grad_f32(VELTZUMA_REGULAR_F32, uint8_t mode, const float *x, size_t x_len, size_t *refusal,
-                                             size_t refusal_len, float *gradient, size_t gradient_len);
+                                             size_t refusal_len, float *gradient, size_t gradient_len, uint8_t *marks,
+                                             size_t marks_len);
 uint8_t veltzuma_rectilinear_interp_one_grad_f32(VELTZUMA_RECTILINEAR_F32, uint8_t mode, const float *x, size_t x_len,
-                                                 size_t *refusal, size_t refusal_len, float *gradient, size_t gradient_len);
+                                                 size_t *refusal, size_t refusal_len, float *gradient, size_t gradient_len,
+                                                 uint8_t *marks, size_t marks_len);
 
 uint8_t veltzuma_regular_interp_f32(VELTZUMA_REGULAR_F32, uint8_t mode, const float *queries, size_t queries_len,
                                     size_t *refusal, size_t refusal_len, float *out, size_t out_len);

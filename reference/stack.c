@@ -17,22 +17,22 @@ static const size_t counts[4] = {5, 5, 5, 5};
 static const double starts[4], steps[4] = {1.0, 1.0, 1.0, 1.0};
 static double axes[20], vals[625], out[4 * QUERIES], queries[4 * QUERIES], value[1], gradient[4];
 static size_t refusal[2], origins[4];
-static uint8_t classes[4], mode;
+static uint8_t classes[4], marks[4], mode;
 
 #define REGULAR 4, counts, 4, starts, 4, steps, 4, vals, 625
 #define RECTILINEAR 4, counts, 4, axes, 20, vals, 625
 
 static void nothing(void) {}
 static void r_new(void) { veltzuma_regular_new(REGULAR, refusal, 2); }
-static void r_loc(void) { veltzuma_regular_get_loc(REGULAR, mode, queries, 4, refusal, 2, origins, 4, classes, 4); }
-static void r_one(void) { veltzuma_regular_interp_one(REGULAR, mode, queries, 4, refusal, 2, value, 1); }
-static void r_grad(void) { veltzuma_regular_interp_one_grad(REGULAR, mode, queries, 4, refusal, 2, gradient, 4); }
+static void r_loc(void) { veltzuma_regular_get_loc(REGULAR, mode, queries, 4, refusal, 2, origins, 4, classes, 4, marks, 4); }
+static void r_one(void) { veltzuma_regular_interp_one(REGULAR, mode, queries, 4, refusal, 2, value, 1, marks, 4); }
+static void r_grad(void) { veltzuma_regular_interp_one_grad(REGULAR, mode, queries, 4, refusal, 2, gradient, 4, marks, 4); }
 static void r_many(void) { veltzuma_regular_interp(REGULAR, mode, queries, 4 * QUERIES, refusal, 2, out, QUERIES); }
 static void r_grads(void) { veltzuma_regular_interp_grad(REGULAR, mode, queries, 4 * QUERIES, refusal, 2, out, 4 * QUERIES); }
 static void c_new(void) { veltzuma_rectilinear_new(RECTILINEAR, refusal, 2); }
-static void c_loc(void) { veltzuma_rectilinear_get_loc(RECTILINEAR, mode, queries, 4, refusal, 2, origins, 4, classes, 4); }
-static void c_one(void) { veltzuma_rectilinear_interp_one(RECTILINEAR, mode, queries, 4, refusal, 2, value, 1); }
-static void c_grad(void) { veltzuma_rectilinear_interp_one_grad(RECTILINEAR, mode, queries, 4, refusal, 2, gradient, 4); }
+static void c_loc(void) { veltzuma_rectilinear_get_loc(RECTILINEAR, mode, queries, 4, refusal, 2, origins, 4, classes, 4, marks, 4); }
+static void c_one(void) { veltzuma_rectilinear_interp_one(RECTILINEAR, mode, queries, 4, refusal, 2, value, 1, marks, 4); }
+static void c_grad(void) { veltzuma_rectilinear_interp_one_grad(RECTILINEAR, mode, queries, 4, refusal, 2, gradient, 4, marks, 4); }
 static void c_many(void) { veltzuma_rectilinear_interp(RECTILINEAR, mode, queries, 4 * QUERIES, refusal, 2, out, QUERIES); }
 static void c_grads(void) { veltzuma_rectilinear_interp_grad(RECTILINEAR, mode, queries, 4 * QUERIES, refusal, 2, out, 4 * QUERIES); }
 

@@ -18,6 +18,7 @@ LARGEST = os.path.join(TABLES, 'synthetic-strokes-temperature-pressure.table')
 sys.path[:0] = [os.path.join(TOP, 'tools'), os.path.join(TOP, 'bindings', 'python')]
 MODES = ('cubic', 'straight', 'held')
 CLASSES = ('None', 'InsideLow', 'OutsideLow', 'InsideHigh', 'OutsideHigh')
+MARKS = ('', 'below', 'above')
 
 
 if not os.environ.get('VELTZUMA_LIBRARY'):
@@ -103,14 +104,15 @@ class Direct:
     def __init__(self, kind, counts, lent, vals, width):
         self.dll = ctypes.CDLL(LIBRARY)
         self.kind, self.axes, self.width = kind, len(counts), width
+        self.counts, self.lent = counts, lent
         self.float = ctypes.c_float if width == 'f32' else ctypes.c_double
         self.grid = [ctypes.c_size_t(len(counts)), (ctypes.c_size_t * len(counts))(*counts), ctypes.c_size_t(len(counts))]
         for part in [*lent, vals]:
             self.grid += [(self.float * len(part))(*part), ctypes.c_size_t(len(part))]
 
-    def ask(self, name, before, *rooms):
+    def ask(self, name, before, *rooms, refusal=(0, 0)):
         """Number, refusal, and what is written to the rooms."""
-        refusal = (ctypes.c_size_t * 2)(0, 0)
+        refusal = (ctypes.c_size_t * 2)(*refusal)
         words = list(self.grid)
         if before:
             mode, x = before
@@ -122,16 +124,40 @@ class Direct:
         call.restype = ctypes.c_uint8
         return call(*words), list(refusal), rooms
 
+    def rooms(self, name):
+        """Room for what a single query's call writes, the marks at the end."""
+        axes = min(self.axes, 4)
+        rooms = {'get_loc': [ctypes.c_size_t * axes, ctypes.c_uint8 * axes], 'interp_one': [self.float * 1], 'interp_one_grad': [self.float * axes]}[name]
+        return [room() for room in rooms + [ctypes.c_uint8 * axes]]
+
     def one(self, x, mode):
-        """Value, slopes, origins and classes of a query; or number and axis of the refusal."""
-        value, slopes = (self.float * 1)(), (self.float * self.axes)()
-        origins, classes = (ctypes.c_size_t * self.axes)(), (ctypes.c_uint8 * self.axes)()
-        number, refusal, _ = self.ask('interp_one', (mode, x), value)
-        others = [self.ask('interp_one_grad', (mode, x), slopes)[0], self.ask('get_loc', (mode, x), origins, classes)[0]]
-        assert others == [number, number], (number, others)
+        """Value, slopes, origins, classes and marks of a query; or number and axis of the refusal."""
+        found = [self.ask(name, (mode, x), *self.rooms(name)) for name in ('interp_one', 'interp_one_grad', 'get_loc')]
+        number, refusal, (value, marks) = found[0]
+        (slopes, _), (origins, classes, _) = found[1][2], found[2][2]
+        others = [(other, list(rooms[-1])) for other, _, rooms in found]
+        assert others == [(number, list(marks))] * 3, others
         if number:
             return number, refusal[1]
-        return value[0], list(slopes), list(origins), [CLASSES[found] for found in classes]
+        return value[0], list(slopes), list(origins), [CLASSES[found] for found in classes], [MARKS[found] for found in marks]
+
+
+def stand_in(folder, name, versions, symbols=True):
+    """A shared library that has the calls of the library, all of which end the process; and those of `versions` that tell a version, by their ending."""
+    calls = [f'{kind}_{call}{ending}' for kind in ('regular', 'rectilinear') for ending in ('', '_f32')
+             for call in ('new', 'get_loc', 'interp_one', 'interp_one_grad', 'interp', 'interp_grad')]
+    lines = ['#include <stdint.h>', '#include <stdlib.h>', 'int other;', *(f'uint8_t veltzuma_{call}(void) {{ abort(); }}' for call in calls if symbols),
+             *(f'uint32_t veltzuma_version{ending}(void) {{ return {number}; }}' for ending, number in versions.items())]
+    path = os.path.join(folder, name)
+    subprocess.run(['gcc', '-shared', '-fPIC', '-x', 'c', '-o', path, '-'], input='\n'.join(lines).encode() + b'\n', check=True)
+    return path
+
+
+# Libraries of another version, by the name of a file: what stand_in makes them of, and what is said of them.
+OTHERS = {'old.so': ({}, 'old.so has no version, so it is an older library, and version 2 is needed'),
+          'new.so': ({'': 3, '_f32': 3}, 'new.so has version 3, and version 2 is needed'),
+          'half.so': ({'': 2, '_f32': 1}, 'half.so has version 1 in f32, and version 2 is needed'),
+          'half_old.so': ({'': 2}, 'half_old.so has no version in f32, so it is an older library, and version 2 is needed')}
 
 
 def bits(x, width):

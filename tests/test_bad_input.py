@@ -6,7 +6,7 @@ import subprocess
 import sys
 import unittest
 
-from support import InFolder, LARGEST, TOOL, TOP, run, run_process, table
+from support import InFolder, LARGEST, OTHERS, TOOL, TOP, run, run_process, stand_in, table
 
 GOOD = table([('flow', [0, 1, 2, 3]), ('heat', [0, 1, 2, 3, 4])], lambda i, j: i + j)
 REGULAR = table([('flow', 0, 1, 4)], lambda i: i, 'regular')
@@ -229,6 +229,17 @@ class BadCommands(InFolder):
         self.assertOneLine(run_process('check', LARGEST, VELTZUMA_LIBRARY=os.path.join(self.folder, 'none.so')), 2, 'the library cannot be loaded', 'none.so')
         self.assertOneLine(run_process('check', LARGEST, VELTZUMA_LIBRARY=self.write('text', 'text.so')), 2, 'the library cannot be loaded', 'text.so')
         self.assertOneLine(run_process('check', LARGEST, VELTZUMA_LIBRARY=self.write('text', 'text.so')), 2, 'the library cannot be loaded')
+
+    def test_library_of_another_version(self):
+        out = os.path.join(self.folder, 'out')
+        for name, (versions, said) in OTHERS.items():
+            path = stand_in(self.folder, name, versions)
+            for words in (['check', LARGEST], ['eval', LARGEST, '--at', '1,2,3'], ['nodes', LARGEST], ['plot', LARGEST, '--along', '0', '-o', out],
+                          ['report', LARGEST, '-o', out], ['diff', LARGEST, LARGEST]):
+                self.assertOneLine(run_process(*words, VELTZUMA_LIBRARY=path), 2, f'the library cannot be loaded: {self.folder}/{said}; ')
+        self.assertFalse(os.path.exists(out))
+        path = stand_in(self.folder, 'none.so', {}, symbols=False)
+        self.assertOneLine(run_process('check', LARGEST, VELTZUMA_LIBRARY=path), 2, f'the library cannot be loaded: {path} is not the library: it has no veltzuma_regular_new')
 
     def test_numbers_that_are_no_bad_input(self):
         """nan and inf are numbers, and go to the library as they are."""

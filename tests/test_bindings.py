@@ -4,17 +4,20 @@ import copy
 import ctypes
 import gc
 import itertools
+import json
 import math
 import os
 import pickle
 import random
+import re
 import shutil
+import struct
 import subprocess
 import sys
 import tempfile
 import unittest
 
-from support import Direct, LIBRARY, MODES, TOP, bits
+from support import Direct, LIBRARY, MARKS, MODES, OTHERS, TOP, bits, stand_in, text_of
 import veltzuma
 
 CUBE = ([4], [0.0], [1.0], [0.0, 1.0, 8.0, 27.0])
@@ -25,8 +28,14 @@ def same(a, b, width):
     return len(a) == len(b) and all((x != x and y != y) or bits(x, width) == bits(y, width) for x, y in zip(a, b))
 
 
+def both(made, counts, lent, vals, width):
+    """A grid of the binding, and the same for straight calls."""
+    return made, Direct(made.kind, counts, [array.array(CODE[width], part).tolist() for part in lent], array.array(CODE[width], vals).tolist(), width)
+
+
 class Calls(unittest.TestCase):
-    def grids(self, chosen, width):
+    @staticmethod
+    def grids(chosen, width):
         """A random grid: the binding's, and the same for straight calls. Some are refused, each for another reason."""
         axes = chosen.choice([1, 1, 2, 2, 3, 4])
         counts = [chosen.choice([4, 4, 5, 6, 3]) if chosen.random() < 0.2 else chosen.randrange(4, 7) for _ in range(axes)]
@@ -36,7 +45,6 @@ class Calls(unittest.TestCase):
             counts += [4] * (5 - axes)
         length = math.prod(counts) if math.prod(counts) < 3000 else 16
         vals = [chosen.uniform(-9, 9) for _ in range(length + (chosen.random() < 0.06))]
-        round_off = array.array(CODE[width], vals).tolist()
         if chosen.random() < 0.5:
             starts = [chosen.choice([0.0, -1.5, 3.25]) for _ in counts]
             steps = [chosen.choice([1.0, 0.5, 0.1] + [0.0] * (chosen.random() < 0.1)) for _ in counts]
@@ -49,7 +57,7 @@ class Calls(unittest.TestCase):
                     axis[chosen.randrange(len(axis))] = chosen.choice([math.nan, -50.0])
                 entries += axis
             lent, made = [entries], veltzuma.MulticubicRectilinear(counts, entries, vals, width)
-        return made, Direct(made.kind, counts, [array.array(CODE[width], part).tolist() for part in lent], round_off, width)
+        return both(made, counts, lent, vals, width)
 
     def test_against_straight_calls(self):
         chosen, numbers = random.Random(18), set()
@@ -59,10 +67,9 @@ class Calls(unittest.TestCase):
             axes, count = made.axis_count, chosen.randrange(4)
             queries = [chosen.choice([chosen.uniform(-6, 9), chosen.uniform(-6, 9), 0.0, math.inf, math.nan, -1e300]) for _ in range(axes * count + (turn % 40 == 0))]
             used = array.array(CODE[width], queries).tolist()
-            x, room = used[:axes] if len(used) >= axes else [0.5] * axes, min(axes, 4)
-            cases = [('new', None, []), ('get_loc', x, [(ctypes.c_size_t * room)(), (ctypes.c_uint8 * room)()]), ('interp_one', x, [(direct.float * 1)()]),
-                     ('interp_one_grad', x, [(direct.float * room)()]), ('interp', used, [(direct.float * count)(*[7.0] * count)]),
-                     ('interp_grad', used, [(direct.float * (axes * count))(*[7.0] * (axes * count))])]
+            x = used[:axes] if len(used) >= axes else [0.5] * axes
+            cases = [('new', None, []), *((name, x, direct.rooms(name)) for name in ('get_loc', 'interp_one', 'interp_one_grad')),
+                     ('interp', used, [(direct.float * count)(*[7.0] * count)]), ('interp_grad', used, [(direct.float * (axes * count))(*[7.0] * (axes * count))])]
             for name, given, rooms in cases:
                 number, refusal, _ = direct.ask(name, None if name == 'new' else (mode, given), *rooms)
                 numbers.add(number)
@@ -76,9 +83,12 @@ class Calls(unittest.TestCase):
                         found = getattr(made, name)(given, mode)
                     self.assertEqual(number, 0, name)
                     if name == 'get_loc':
-                        self.assertEqual([(place.origin, place.saturation) for place in found], [(origin, veltzuma.SATURATION[c]) for origin, c in zip(*rooms)])
+                        self.assertEqual([(place.origin, place.saturation, place.below, place.above) for place in found],
+                                         [(origin, veltzuma.SATURATION[c], mark == 1, mark == 2) for origin, c, mark in zip(*rooms)])
                     elif name != 'new':
                         self.assertTrue(same([found] if name == 'interp_one' else found, rooms[0], width), (name, found, list(rooms[0])))
+                        if out is None:
+                            self.assertEqual([(mark.below, mark.above) for mark in found.marks], [(mark == 1, mark == 2) for mark in rooms[1]], name)
                 except veltzuma.Refusal as told:
                     self.assertEqual((told.number, told.query, told.axis), (number, *refusal), name)
                 if out is not None:
@@ -106,6 +116,173 @@ class Calls(unittest.TestCase):
     def test_version(self):
         made = veltzuma.load(LIBRARY).build
         self.assertEqual(set(made), {'commit', 'kit', 'sources'})
+        # Of the calls: the header's, the library's in both widths, and the binding's are one.
+        self.assertEqual(re.findall(r'^#define VELTZUMA_VERSION (\d+)\b', text_of(os.path.join(TOP, 'include', 'veltzuma.h')), re.M), [str(veltzuma.VERSION)])
+        dll = ctypes.CDLL(LIBRARY)
+        self.assertEqual([dll['veltzuma_version' + ending]() for ending in ('', '_f32')], [veltzuma.VERSION] * 2)
+
+    def test_examples(self):
+        """What the module shows works as written."""
+        names, shown = {'veltzuma': veltzuma}, [line.strip().partition('#') for line in veltzuma.__doc__.split('\n') if line.startswith('    grid')]
+        self.assertEqual(len(shown), 7)
+        for code, _, said in shown:
+            if not said:
+                exec(code, names)
+            elif 'raises' in said:
+                with self.assertRaises(veltzuma.Refusal) as caught:
+                    eval(code, names)
+                told = caught.exception
+                self.assertEqual(said, f' raises Refusal: number {told.number}, query {told.query}, axis {told.axis}')
+            else:
+                self.assertEqual(repr(eval(code, names)), said.strip())
+
+
+def ends(direct):
+    """The first and the last node of each axis, each operation rounded in the width."""
+    found, rest = [], list(direct.lent[0])
+    for axis, count in enumerate(direct.counts):
+        if direct.kind == 'regular':
+            start, step = (part[axis] for part in direct.lent)
+            steps = array.array(CODE[direct.width], [step * 0, step * (count - 1)])
+            found.append(array.array(CODE[direct.width], [start + part for part in steps]))
+        else:
+            found.append([rest[0], rest[count - 1]])
+            del rest[:count]
+    return found
+
+
+def beside(x, up, width):
+    """The next number of the width."""
+    if width == 'f64':
+        return math.nextafter(x, math.inf if up else -math.inf)
+    word = struct.unpack('<i', struct.pack('<f', x))[0]
+    place = (word if word >= 0 else -(word & 0x7fffffff)) + (1 if up else -1)
+    return struct.unpack('<f', struct.pack('<I', place if place >= 0 else -place | 0x80000000))[0]
+
+
+class MarksOfAnswers(unittest.TestCase):
+    """Whether a query, as given, lies below the first node of an axis or above its last."""
+
+    def marks(self, grid, x, mode):
+        """Below or above on each axis, which the three calls say alike."""
+        found = [grid.interp_one(x, mode).marks, grid.interp_one_grad(x, mode).marks, tuple(veltzuma.Marks(*place[2:]) for place in grid.get_loc(x, mode))]
+        self.assertEqual(found, [found[0]] * 3, (x, mode))
+        for mark in found[0]:
+            self.assertIsInstance(mark, veltzuma.Marks)
+            self.assertIn((mark.below, mark.above), ((False, False), (True, False), (False, True)))
+        return ['below' if mark.below else 'above' if mark.above else '' for mark in found[0]]
+
+    def test_by_own_comparison(self):
+        """At the ends, beside them, and far off: the binding and the straight calls against the nodes, in each setting alike."""
+        chosen, seen = random.Random(19), set()
+        for turn in range(500):
+            width = veltzuma.WIDTHS[turn % 2]
+            made, direct = Calls.grids(chosen, width)
+            try:
+                made.new()
+            except veltzuma.Refusal:
+                continue
+            x, expected = [], []
+            for first, last in ends(direct):
+                x.append(chosen.choice([first, last, *(beside(end, up, width) for end in (first, last) for up in (False, True)), chosen.uniform(first, last),
+                                        first - 3.0, last + 3.0, -0.0, -math.inf, math.inf, math.nan]))
+                given = array.array(CODE[width], x[-1:])[0]
+                expected.append('below' if given < first else 'above' if last < given else '')
+            for mode in MODES:
+                found = direct.one(x, mode)
+                if len(found) == 5:
+                    self.assertEqual((found[4], self.marks(made, x, mode)), (expected, expected), (made.kind, width, mode, x))
+                    seen |= {(made.kind, width, mode, mark) for mark in expected}
+        self.assertEqual(len(seen), 36)
+
+    def test_known_places(self):
+        """A mark is no class, and depends on no value."""
+        inf, nan = math.inf, math.nan
+        regular = {'cubic': [(-0.5, 'OutsideLow', 'below'), (0, 'InsideLow', ''), (-0.0, 'InsideLow', ''), (2.5, 'None', ''), (4, 'OutsideHigh', ''),
+                             (4.5, 'OutsideHigh', 'above'), (-2.0 ** 63, 'OutsideLow', 'below')],
+                   'held': [(-0.5, 'InsideLow', 'below'), (-inf, 'InsideLow', 'below'), (0, 'InsideLow', ''), (4, 'OutsideHigh', ''), (9, 'OutsideHigh', 'above'),
+                            (inf, 'OutsideHigh', 'above')]}
+        rectilinear = {'cubic': [(0, 'OutsideLow', ''), (-0.0, 'OutsideLow', ''), (-1, 'OutsideLow', 'below'), (7, 'InsideHigh', ''), (8, 'OutsideHigh', 'above'),
+                                 (nan, 'OutsideLow', ''), (inf, 'OutsideHigh', 'above'), (-inf, 'OutsideLow', 'below')],
+                       'held': [(-1, 'OutsideLow', 'below'), (8, 'InsideHigh', 'above'), (inf, 'InsideHigh', 'above'), (-inf, 'OutsideLow', 'below'),
+                                (7, 'InsideHigh', ''), (nan, 'OutsideLow', '')]}
+        for cases in (regular, rectilinear):
+            cases['straight'] = cases['cubic']
+        for width, vals in itertools.product(veltzuma.WIDTHS, ([0.0, 1.0, 8.0, 27.0, 64.0], [nan] * 5)):
+            for grid, cases in ((veltzuma.MulticubicRegular([5], [0], [1], vals, width), regular),
+                                (veltzuma.MulticubicRectilinear([5], [0, 1, 2, 4, 7], vals, width), rectilinear)):
+                for mode, rows in cases.items():
+                    for given, saturation, mark in rows:
+                        self.assertEqual((grid.get_loc([given], mode)[0].saturation, self.marks(grid, [given], mode)), (saturation, [mark]), (given, mode, grid.kind))
+
+    def test_below_and_inside(self):
+        """The quotient of a query just below the start may round to -0: its class is InsideLow all the same."""
+        for width, start in (('f64', 2.0 ** -1022), ('f32', 2.0 ** -126)):
+            grid = veltzuma.MulticubicRegular([4], [start], [2.0 ** 60], CUBE[3], width)
+            for given, mark in ((beside(start, False, width), 'below'), (start, ''), (beside(start, True, width), '')):
+                for mode in MODES:
+                    self.assertEqual((grid.get_loc([given], mode)[0][:2], self.marks(grid, [given], mode)), ((0, 'InsideLow'), [mark]))
+
+    def test_each_axis_by_itself(self):
+        for width, axes in itertools.product(veltzuma.WIDTHS, (1, 2, 3, 4)):
+            counts, vals = [4, 5, 4, 6][:axes], [1.0] * math.prod([4, 5, 4, 6][:axes])
+            first, last = [0.0, 10.0, -20.0, 30.0][:axes], [3.0, 14.0, -17.0, 35.0][:axes]
+            for grid in (veltzuma.MulticubicRegular(counts, first, [1.0] * axes, vals, width),
+                         veltzuma.MulticubicRectilinear.of_axes([[start + k for k in range(count)] for start, count in zip(first, counts)], vals, width)):
+                for expected in itertools.product(MARKS, repeat=axes):
+                    x = [{'below': low - 0.5, '': low + 1.5, 'above': high + 0.5}[mark] for mark, low, high in zip(expected, first, last)]
+                    self.assertEqual([self.marks(grid, x, mode) for mode in MODES], [list(expected)] * 3)
+
+    def test_room(self):
+        """A refusal leaves the marks as they were; too little room for them is 7, and nothing is written."""
+        for width in veltzuma.WIDTHS:
+            vals = [1.0] * 20
+            for made, direct in (both(veltzuma.MulticubicRegular([4, 5], [0, 0], [1, 1], vals, width), [4, 5], [[0, 0], [1, 1]], vals, width),
+                                 both(veltzuma.MulticubicRectilinear([4, 5], [0, 1, 2, 3, 0, 1, 2, 3, 4], vals, width), [4, 5], [[0, 1, 2, 3, 0, 1, 2, 3, 4]], vals, width)):
+                refused = both(made, [4, 5], [[0, 0], [1, 0]] if made.kind == 'regular' else [[0, 1, 2, 3, 0, 0, 2, 3, 4]], vals, width)[1]
+                for name, mode in itertools.product(('get_loc', 'interp_one', 'interp_one_grad'), MODES):
+                    def asked(grid, x, length):
+                        rooms = direct.rooms(name)[:-1] + [(ctypes.c_uint8 * length)()]
+                        for room in rooms:
+                            room[:] = [77] * len(room)
+                        number, refusal, _ = grid.ask(name, (mode, x), *rooms, refusal=(77, 77))
+                        return number, refusal, [list(room) for room in rooms[:-1]], list(rooms[-1])
+
+                    as_it_was = [[77] * len(room) for room in direct.rooms(name)[:-1]]
+                    # Entries past the axis count are not written.
+                    self.assertEqual(asked(direct, [-1, 9], 4)[::3], (0, [1, 2, 77, 77]))
+                    self.assertEqual(asked(direct, [-1, 9], 2)[::3], (0, [1, 2]))
+                    for length in (0, 1):
+                        self.assertEqual(asked(direct, [-1, 9], length), (7, [77, 77], as_it_was, [77] * length))
+                        # Of two refusals the lower number.
+                        self.assertEqual(asked(refused, [-1, 9], length), (5, [0, 1], as_it_was, [77] * length))
+                    self.assertEqual(asked(refused, [-1, 9], 2), (5, [0, 1], as_it_was, [77, 77]))
+                    self.assertEqual(asked(direct, [-1], 2), (3, [0, 0], as_it_was, [77, 77]))
+                    if made.kind == 'regular':
+                        self.assertEqual(asked(direct, [-1, math.nan], 2), (8, [0, 1], as_it_was, [77, 77]))
+
+    def test_answers_as_they_were(self):
+        """A value is a float and a gradient a list, as before there were marks; and copies have the marks."""
+        grid = veltzuma.MulticubicRegular(*CUBE)
+        marks = (veltzuma.Marks(below=False, above=True),)
+        value, slopes, place = (call([4.0], 'straight') for call in (grid.interp_one, grid.interp_one_grad, grid.get_loc))
+        for found, plain in ((value, 52.0), (slopes, [25.0])):
+            self.assertIsInstance(found, type(plain))
+            self.assertEqual((found, found.marks), (plain, marks))
+            for shown in (repr, str, '{}'.format, json.dumps):
+                self.assertEqual(shown(found), shown(plain))
+            for again in (copy.copy(found), copy.deepcopy(found), *(pickle.loads(pickle.dumps(found, protocol)) for protocol in range(pickle.HIGHEST_PROTOCOL + 1))):
+                self.assertEqual((type(again), again, again.marks), (type(found), plain, marks))
+                self.assertIsInstance(again.marks[0], veltzuma.Marks)
+        self.assertEqual((value + 1, -value, f'{value:.1f}', {52.0: 'found'}[value], round(value), array.array('f', [value])[0]), (53.0, -52.0, '52.0', 'found', 52, 52.0))
+        other = copy.copy(slopes)
+        other[0] = 1.0
+        self.assertEqual((slopes + [1.0], sorted(slopes), slopes[0], max(slopes)), ([25.0, 1.0], [25.0], 25.0, 25.0))
+        self.assertEqual(place, [(0, 'OutsideHigh', False, True)])
+        self.assertEqual((place[0].origin, place[0].saturation, pickle.loads(pickle.dumps(place))), (0, 'OutsideHigh', place))
+        # A batch has none.
+        self.assertIs(type(grid.interp([4.0])), array.array)
+        self.assertIs(type(grid.interp_grad([4.0])), array.array)
 
 
 class Inputs(unittest.TestCase):
@@ -231,6 +408,22 @@ class Inputs(unittest.TestCase):
                            (self.libc(), 'is not the library: it has no veltzuma_regular_new')):
             with self.assertRaisesRegex(OSError, said):
                 veltzuma.load(path)
+
+    def test_other_versions(self):
+        with tempfile.TemporaryDirectory() as folder:
+            for name, (versions, said) in OTHERS.items():
+                path = stand_in(folder, name, versions)
+                with self.assertRaises(OSError) as caught:
+                    veltzuma.load(path)
+                self.assertEqual(str(caught.exception), f"{folder}/{said}; './veltzuma build' builds that where VELTZUMA_LIBRARY is not set")
+            # What has none of the calls is no older library; and the version alone is not the library either.
+            for name, versions, symbol in (('none.so', {}, 'new'), ('f64.so', {'': veltzuma.VERSION}, 'new_f32'), ('bare.so', {'': veltzuma.VERSION, '_f32': veltzuma.VERSION}, 'new')):
+                path = stand_in(folder, name, versions, symbols=False)
+                with self.assertRaises(OSError) as caught:
+                    veltzuma.load(path)
+                self.assertEqual(str(caught.exception), f'{path} is not the library: it has no veltzuma_regular_{symbol}')
+            # And one of the right version is taken.
+            veltzuma.load(stand_in(folder, 'right.so', {'': veltzuma.VERSION, '_f32': veltzuma.VERSION}))
 
     def test_copied_module(self):
         """Away from the repository it asks for the variable."""

@@ -1,6 +1,7 @@
 """veltzuma eval: every number against the library's own bits, asked straight; refused queries; long files."""
 import csv
 import io
+import itertools
 import os
 import pty
 import random
@@ -9,7 +10,7 @@ import sys
 import time
 import unittest
 
-from support import Direct, InFolder, MODES, SAMPLES, LARGEST, TOOL, bits, c_number, run, table, text_of
+from support import Direct, InFolder, MARKS, MODES, SAMPLES, LARGEST, TOOL, bits, c_number, run, table, text_of
 
 REGULAR = table([('flow', -1.5, 0.1, 7), ('heat', 10, 4, 5)], lambda i, j: i * 3.7 - j * j / 7, 'regular')
 RECTILINEAR = table([('flow', [-1.5, 0, 0.1, 3, 8]), ('heat', [10, 11.3, 11.4, 20]), ('head', [-4, 0, 1, 2, 5])], lambda i, j, k: i * j - k * k / 3)
@@ -60,16 +61,16 @@ class Answers(InFolder):
         x = numbers(line, width)
         found = grid.one(x, mode)
         if len(found) == 2:
-            return [shown(number) for number in x] + [''] * (1 + 3 * len(x)), found
-        value, slopes, origins, classes = found
+            return [shown(number) for number in x] + [''] * (1 + 4 * len(x)), found
+        value, slopes, origins, classes, marks = found
         cells = [shown(number) for number in x + [value] + slopes]
         for origin, name in zip(origins, classes):
             cells += [str(origin), name]
-        return cells, None
+        return cells + marks, None
 
     def test_bits(self):
         texts = [REGULAR, RECTILINEAR] + [text_of(path) for path in SAMPLES]
-        refused = 0
+        refused, seen = 0, set()
         for text in texts:
             lines = self.queries(text.count('axis:'))
             path, queries = self.write(text), self.write('\n'.join(lines) + '\n', 'q.csv')
@@ -80,6 +81,7 @@ class Answers(InFolder):
                     header, rows = read(out)
                     self.assertEqual(err, '')
                     self.assertEqual(len(rows), len(lines))
+                    self.assertEqual({len(row) for row in rows}, {len(header)})
                     some = False
                     for line, row in zip(lines, rows):
                         cells, refusal = self.expected(grid, line, width, mode, lambda number: bits(number, width))
@@ -91,11 +93,14 @@ class Answers(InFolder):
                             row[i] = cells[i]
                         self.assertEqual(row[:-1], cells, (line, mode, width))
                         self.assertEqual(bool(row[-1]), refusal is not None, row)
-                        if refusal:
+                        if refusal is None:
+                            seen |= {(mode, mark) for mark in row[-1 - grid.axes:-1]}
+                        else:
                             some, refused = True, refused + 1
                             self.assertIn(f"refused {refusal[0]} (unplaceable): axis {refusal[1]} '", row[-1])
                     self.assertEqual(status, 1 if some else 0)
         self.assertGreater(refused, 20)
+        self.assertEqual(seen, set(itertools.product(MODES, MARKS)))
 
     def test_decimals_read_back(self):
         for text in (REGULAR, RECTILINEAR):
@@ -116,10 +121,21 @@ class Answers(InFolder):
         header, rows = read(out)
         self.assertEqual((status, err), (0, ''))
         self.assertEqual(header, ['flow', 'heat', 'volume', 'slope along flow', 'slope along heat', 'origin on flow', 'class on flow', 'origin on heat',
-                                  'class on heat', 'refusal'])
+                                  'class on heat', 'outside on flow', 'outside on heat', 'refusal'])
         self.assertEqual([row[:2] for row in rows], [['-1.25', '12.7'], ['-1', '2'], ['0', '1000']])
-        self.assertEqual([row[5:] for row in rows], [['1', 'None', '0', 'InsideLow', ''], ['3', 'InsideHigh', '0', 'OutsideLow', ''],
-                                                     ['3', 'OutsideHigh', '1', 'OutsideHigh', '']])
+        self.assertEqual([row[5:] for row in rows], [['1', 'None', '0', 'InsideLow', '', '', ''], ['3', 'InsideHigh', '0', 'OutsideLow', '', 'below', ''],
+                                                     ['3', 'OutsideHigh', '1', 'OutsideHigh', 'above', 'above', '']])
+
+    def test_outside_is_no_class(self):
+        """Of the query as given, held ends or not; at an end a query is not outside."""
+        regular, rectilinear = self.write(table([('a', 0, 1, 5)], [[0, 1, 8, 27, 64]], 'regular')), self.write(table([('a', [0, 1, 2, 4, 7])], [[0, 1, 8, 64, 343]]), 'u.table')
+        for path, mode, at, place in ((regular, 'cubic', '-0.5', 'OutsideLow,below'), (regular, 'cubic', '0', 'InsideLow,'), (regular, 'cubic', '4', 'OutsideHigh,'),
+                                      (regular, 'held', '-0.5', 'InsideLow,below'), (regular, 'held', 'inf', 'OutsideHigh,above'), (rectilinear, 'cubic', '0', 'OutsideLow,'),
+                                      (rectilinear, 'straight', '8', 'OutsideHigh,above'), (rectilinear, 'held', '8', 'InsideHigh,above'),
+                                      (rectilinear, 'cubic', 'nan', 'OutsideLow,'), (rectilinear, 'cubic', 'inf', 'OutsideHigh,above')):
+            for width in ('f64', 'f32'):
+                row = read(run('eval', path, '--at', at, '--mode', mode, '--width', width)[1])[1][0]
+                self.assertEqual(','.join(row[4:]), place + ',', (path, mode, at))
 
     def test_known_numbers(self):
         """Clause 9.2."""
@@ -158,7 +174,7 @@ class Refused(InFolder):
             self.assertEqual((status, err, len(rows)), (1, '', count))
             for i, row in enumerate(rows):
                 if i in places:
-                    self.assertEqual(row, ['inf', '3'] + [''] * 7 + ["refused 8 (unplaceable): axis 0 'flow': (inf - -1.5) / 0.1 is not a finite number from "
+                    self.assertEqual(row, ['inf', '3'] + [''] * 9 + ["refused 8 (unplaceable): axis 0 'flow': (inf - -1.5) / 0.1 is not a finite number from "
                                                                     '-2^63 to below 2^63'])
                 else:
                     self.assertEqual(row, good)

@@ -171,7 +171,7 @@ class Readme(InFolder):
     def test_python(self):
         code = re.search(r"(    import sys; .*?)\n\n", self.TEXT, re.S)[1].replace('\n    ', '\n').strip()
         found = subprocess.run([sys.executable, '-B', '-c', code], cwd=TOP, stdout=subprocess.PIPE)
-        self.assertEqual(found.stdout, b"3.375 [25.0] array('d', [1.0, 3.375])\n")
+        self.assertEqual(found.stdout, b"3.375 [25.0] array('d', [1.0, 3.375])\n(Marks(below=False, above=True),)\n")
 
     def test_picture(self):
         words = re.search(r'\./veltzuma (plot .*) -o (docs/\S+\.svg)', self.TEXT)
@@ -239,6 +239,19 @@ class Report(InFolder):
                 self.assertEqual(figures, stored)
             for section in ('What is proved about every answer', 'docs/SPECIFICATION.md 8.5', 'docs/EVIDENCE.md', 'Not proved'):
                 self.assertIn(section, said)
+            self.assertRegex(said, 'Truly outside. .* is marked on no axis. This table is within them in f64 and in f32. '
+                             r'\(docs/SPECIFICATION.md 3.8 and 8.8; docs/EVIDENCE.md, “Marks”\)')
+
+    def test_clauses_that_it_cites(self):
+        """Each is there, and each section of the evidence."""
+        _, said = self.page(LARGEST)
+        cited = re.findall(r'\(docs/SPECIFICATION.md ([^;)]+); docs/EVIDENCE.md, “([^”]+)”\)', said)
+        self.assertEqual(len(cited), 6)
+        specification, evidence = (text_of(os.path.join(TOP, 'docs', name)) for name in ('SPECIFICATION.md', 'EVIDENCE.md'))
+        for clauses, section in cited:
+            for clause in re.findall(r'[0-9.]+', clauses):
+                self.assertTrue(re.search(rf'^- \*\*{re.escape(clause)}\b' if '.' in clause else f'^## {clause} ', specification, re.M), clause)
+            self.assertTrue(re.search(f'^## {section}', evidence, re.M), section)
 
     def test_version(self):
         import veltzuma
@@ -263,7 +276,7 @@ class Report(InFolder):
     def test_outside_the_premises(self):
         text, said = self.page(self.write(table([('a', 0, 0.1, 4)], [[1, 2, 3, 4]], 'regular')), 0, '--mode', 'held')
         self.assertIn("outside: line 7: axis 0 'a': its step, 0.1, is not a power of two", said)
-        self.assertIn('This table is outside them', said)
+        self.assertEqual(said.count('This table is outside them, so nothing is claimed here of its stored points.'), 2)
 
     def test_many_axes(self):
         text, said = self.page(self.write(table([(name, [0, 1, 2, 3, 5]) for name in 'abcd'], lambda *index: sum(index))))

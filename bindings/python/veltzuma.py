@@ -6,13 +6,18 @@
     grid = veltzuma.MulticubicRegular([4], [0.0], [1.0], [0.0, 1.0, 8.0, 27.0])
     grid.interp_one([1.5])                      # 3.375
     grid.interp_one([4.0], mode='straight')     # 52.0
+    grid.interp_one([4.0]).marks                # (Marks(below=False, above=True),)
+    grid.get_loc([3.0])                         # [Place(origin=0, saturation='OutsideHigh', below=False, above=False)]
     grid.interp([1.0, 1.5])                     # array('d', [1.0, 3.375])
     grid.interp_one([float('nan')])             # raises Refusal: number 8, query 0, axis 0
+
+The marks of a single answer say for each axis whether the query as given, in the grid's width, lay below its first entry or above its last. The
+class does not say that, and a batch has no marks.
 
 Numbers are given as a list, an `array`, any other buffer of numbers, or a numpy array of any shape. A buffer of the grid's own width that can be
 written, in one piece, is lent as it is, so that a later change of it is seen; everything else is copied, each number as Python makes it a float, and
 for f32 rounded once more. Nothing is judged before a call: what the library refuses is raised as a Refusal. docs/SPECIFICATION.md says what is
-answered. The first grid loads the library: see `load`.
+answered. The first grid loads the library: see `load`. One of another version than VERSION is turned away, since its calls take other arguments.
 """
 import array
 import ctypes
@@ -22,9 +27,11 @@ import subprocess
 import sys
 from collections import namedtuple
 
-__all__ = ['MulticubicRegular', 'MulticubicRectilinear', 'Refusal', 'Place', 'Library', 'load', 'MODES', 'WIDTHS', 'REFUSALS', 'SATURATION',
-           'MAX_QUERIES']
+__all__ = ['MulticubicRegular', 'MulticubicRectilinear', 'Refusal', 'Place', 'Marks', 'Value', 'Gradient', 'Library', 'load', 'MODES', 'WIDTHS',
+           'REFUSALS', 'SATURATION', 'MAX_QUERIES', 'VERSION']
 
+# Of the calls, as VELTZUMA_VERSION in include/veltzuma.h.
+VERSION = 2
 MODES = {'cubic': 0, 'straight': 1, 'held': 2}
 WIDTHS = ('f64', 'f32')
 # Clause 2.2.
@@ -35,8 +42,37 @@ MAX_QUERIES = 1 << 20
 _CODE = {'f64': 'd', 'f32': 'f'}
 _LIMIT = 1 << (8 * ctypes.sizeof(ctypes.c_size_t))
 
-Place = namedtuple('Place', 'origin saturation')
-Place.__doc__ = 'Where a query lies on an axis: the first index of its block of four, and its class.'
+Place = namedtuple('Place', 'origin saturation below above')
+Place.__doc__ = 'Where a query lies on an axis: the first index of its block of four, its class, and its marks.'
+Marks = namedtuple('Marks', 'below above')
+Marks.__doc__ = 'Whether a query, as given, lies below the first entry of an axis, or above its last.'
+# By the number that the library writes.
+_MARKS = (Marks(False, False), Marks(True, False), Marks(False, True))
+
+
+class Value(float):
+    """The value at a query, a float; `marks` has the Marks of each axis."""
+    __slots__ = ('marks',)
+
+    def __new__(cls, number, marks=()):
+        made = super().__new__(cls, number)
+        made.marks = marks
+        return made
+
+    def __reduce__(self):
+        return type(self), (float(self), self.marks)
+
+
+class Gradient(list):
+    """The gradient at a query, a list of one slope for each axis; `marks` has the Marks of each axis."""
+    __slots__ = ('marks',)
+
+    def __init__(self, slopes=(), marks=()):
+        super().__init__(slopes)
+        self.marks = marks
+
+    def __reduce__(self):
+        return type(self), (list(self), self.marks)
 
 
 class Refusal(Exception):
@@ -52,18 +88,21 @@ class Refusal(Exception):
 
 
 class Library:
-    """The shared library at a path: its 24 calls, and what it was built from."""
+    """The shared library at a path: its 24 calls, of the version VERSION, and what it was built from."""
 
     def __init__(self, path):
         self.path = os.fspath(path)
         # A bare name would be looked up in the system's folders.
         dll = ctypes.CDLL(os.path.abspath(self.path))
+        self._ask_version(dll)
         size, pointer, number = ctypes.c_size_t, ctypes.c_void_p, ctypes.c_uint8
         lent = [pointer, size]
         grid = {'regular': [size] + 4 * lent, 'rectilinear': [size] + 3 * lent}
         query = [number] + lent
-        shapes = {'new': lent, 'get_loc': query + 3 * lent}
-        for name in ('interp_one', 'interp_one_grad', 'interp', 'interp_grad'):
+        shapes = {'new': lent, 'get_loc': query + 4 * lent}
+        for name in ('interp_one', 'interp_one_grad'):
+            shapes[name] = query + 3 * lent
+        for name in ('interp', 'interp_grad'):
             shapes[name] = query + 2 * lent
         self._calls = {}
         for kind, given in grid.items():
@@ -73,7 +112,7 @@ class Library:
                     try:
                         call = dll[symbol]
                     except AttributeError:
-                        raise OSError(f'{self.path} is not the library: it has no {symbol}') from None
+                        raise self._not_the_library(symbol) from None
                     call.argtypes, call.restype = given + rest, number
                     self._calls[kind, name, width] = call
         # Name and content of what it was built from, one to a line; a library that was linked otherwise has none.
@@ -82,6 +121,27 @@ class Library:
         except ValueError:
             text = ''
         self.build = dict(line.split(' ', 1) for line in text.splitlines() if ' ' in line)
+
+    def _ask_version(self, dll):
+        """Turns a library of another version away, before any other call of it is bound: its calls take other arguments."""
+        for ending, half in (('', ''), ('_f32', ' in f32')):
+            try:
+                call = dll['veltzuma_version' + ending]
+            except AttributeError:
+                # Before version 2 there was no such call.
+                if not hasattr(dll, 'veltzuma_regular_new' + ending):
+                    raise self._not_the_library('veltzuma_regular_new' + ending) from None
+                told = f'no version{half}, so it is an older library'
+            else:
+                call.argtypes, call.restype = [], ctypes.c_uint32
+                found = call()
+                if found == VERSION:
+                    continue
+                told = f'version {found}{half}'
+            raise OSError(f"{self.path} has {told}, and version {VERSION} is needed; './veltzuma build' builds that where VELTZUMA_LIBRARY is not set")
+
+    def _not_the_library(self, symbol):
+        return OSError(f'{self.path} is not the library: it has no {symbol}')
 
     def call(self, kind, name, width):
         return self._calls[kind, name, width]
@@ -233,27 +293,30 @@ class _Grid:
         self._ask('new', (), ())
 
     def get_loc(self, x, mode='cubic'):
-        """The place of a query on each axis."""
+        """The Place of a query on each axis. Held, origin and class are those of the query as used; the marks are always of the query as given."""
         x, mode = _lend(x, self._code, self._lent), self._mode(mode)
         room = min(self._axis_count, 4)
-        origins, classes = (ctypes.c_size_t * room)(), (ctypes.c_uint8 * room)()
-        self._ask('get_loc', (mode, x.address, x.length), (ctypes.addressof(origins), room, ctypes.addressof(classes), room))
-        return [Place(origin, SATURATION[number]) for origin, number in zip(origins, classes)]
+        origins, classes, marks = (ctypes.c_size_t * room)(), (ctypes.c_uint8 * room)(), (ctypes.c_uint8 * room)()
+        self._ask('get_loc', (mode, x.address, x.length),
+                  (ctypes.addressof(origins), room, ctypes.addressof(classes), room, ctypes.addressof(marks), room))
+        return [Place(origin, SATURATION[number], *_MARKS[mark]) for origin, number, mark in zip(origins, classes, marks)]
 
     def _one(self, name, x, mode, room):
+        """What a call writes to so much room, and the marks."""
         x, mode = _lend(x, self._code, self._lent), self._mode(mode)
         out = array.array(self._code, bytes(room * array.array(self._code).itemsize))
-        lent = _Lent(out, self._code)
-        self._ask(name, (mode, x.address, x.length), (lent.address, lent.length))
-        return out
+        lent, marks = _Lent(out, self._code), (ctypes.c_uint8 * min(self._axis_count, 4))()
+        self._ask(name, (mode, x.address, x.length), (lent.address, lent.length, ctypes.addressof(marks), len(marks)))
+        return out, tuple(_MARKS[mark] for mark in marks)
 
     def interp_one(self, x, mode='cubic'):
-        """The value at a query."""
-        return self._one('interp_one', x, mode, 1)[0]
+        """The value at a query, a float with `marks`."""
+        value, marks = self._one('interp_one', x, mode, 1)
+        return Value(value[0], marks)
 
     def interp_one_grad(self, x, mode='cubic'):
-        """The gradient at a query, a list of one slope for each axis."""
-        return self._one('interp_one_grad', x, mode, min(self._axis_count, 4)).tolist()
+        """The gradient at a query, a list of one slope for each axis, with `marks`."""
+        return Gradient(*self._one('interp_one_grad', x, mode, min(self._axis_count, 4)))
 
     def _batch(self, name, queries, out, mode, columns):
         lent, mode = _lend(queries, self._code, self._lent), self._mode(mode)

@@ -1,14 +1,20 @@
 //! The twelve C calls of each archive, libcapi.a and libcapi_f32.a, and one function for each pair of them. Used by
 //! `compare` and `bench`.
 //! A slice goes over as its pointer and its length; the answer is the number of the refusal, 0 where there is none.
+//! The declarations are by hand, after include/veltzuma.h of this version.
 use crate::cases::Grid;
 use crate::width::Width;
 
+pub const VERSION: u32 = 2;
+
 pub trait Calls: Width {
+    fn version() -> u32;
     fn new(g: &Grid<Self>, refusal: &mut [usize]) -> u8;
-    fn get_loc(g: &Grid<Self>, x: &[Self], refusal: &mut [usize], origins: &mut [usize], classes: &mut [u8]) -> u8;
-    fn interp_one(g: &Grid<Self>, x: &[Self], refusal: &mut [usize], value: &mut [Self]) -> u8;
-    fn interp_one_grad(g: &Grid<Self>, x: &[Self], refusal: &mut [usize], gradient: &mut [Self]) -> u8;
+    fn get_loc(
+        g: &Grid<Self>, x: &[Self], refusal: &mut [usize], origins: &mut [usize], classes: &mut [u8], marks: &mut [u8],
+    ) -> u8;
+    fn interp_one(g: &Grid<Self>, x: &[Self], refusal: &mut [usize], value: &mut [Self], marks: &mut [u8]) -> u8;
+    fn interp_one_grad(g: &Grid<Self>, x: &[Self], refusal: &mut [usize], gradient: &mut [Self], marks: &mut [u8]) -> u8;
     fn interp(g: &Grid<Self>, queries: &[Self], refusal: &mut [usize], out: &mut [Self]) -> u8;
     fn interp_grad(g: &Grid<Self>, queries: &[Self], refusal: &mut [usize], out: &mut [Self]) -> u8;
 }
@@ -20,6 +26,8 @@ macro_rules! calls {
         const _: () = {
             #[link(name = $archive, kind = "static")]
             unsafe extern "C" {
+                #[link_name = concat!("veltzuma_version", $suffix)]
+                fn version() -> u32;
                 #[link_name = concat!("veltzuma_regular_new", $suffix)]
                 fn regular_new(
                     axis_count: usize, counts: *const usize, counts_len: usize, starts: *const $T, starts_len: usize,
@@ -32,20 +40,21 @@ macro_rules! calls {
                     steps: *const $T, steps_len: usize, vals: *const $T, vals_len: usize, mode: u8,
                     x: *const $T, x_len: usize, refusal: *mut usize, refusal_len: usize,
                     origins: *mut usize, origins_len: usize, classes: *mut u8, classes_len: usize,
+                    marks: *mut u8, marks_len: usize,
                 ) -> u8;
                 #[link_name = concat!("veltzuma_regular_interp_one", $suffix)]
                 fn regular_interp_one(
                     axis_count: usize, counts: *const usize, counts_len: usize, starts: *const $T, starts_len: usize,
                     steps: *const $T, steps_len: usize, vals: *const $T, vals_len: usize, mode: u8,
                     x: *const $T, x_len: usize, refusal: *mut usize, refusal_len: usize,
-                    value: *mut $T, value_len: usize,
+                    value: *mut $T, value_len: usize, marks: *mut u8, marks_len: usize,
                 ) -> u8;
                 #[link_name = concat!("veltzuma_regular_interp_one_grad", $suffix)]
                 fn regular_interp_one_grad(
                     axis_count: usize, counts: *const usize, counts_len: usize, starts: *const $T, starts_len: usize,
                     steps: *const $T, steps_len: usize, vals: *const $T, vals_len: usize, mode: u8,
                     x: *const $T, x_len: usize, refusal: *mut usize, refusal_len: usize,
-                    gradient: *mut $T, gradient_len: usize,
+                    gradient: *mut $T, gradient_len: usize, marks: *mut u8, marks_len: usize,
                 ) -> u8;
                 #[link_name = concat!("veltzuma_regular_interp", $suffix)]
                 fn regular_interp(
@@ -71,19 +80,21 @@ macro_rules! calls {
                     axis_count: usize, counts: *const usize, counts_len: usize, axes: *const $T, axes_len: usize,
                     vals: *const $T, vals_len: usize, mode: u8, x: *const $T, x_len: usize,
                     refusal: *mut usize, refusal_len: usize, origins: *mut usize, origins_len: usize,
-                    classes: *mut u8, classes_len: usize,
+                    classes: *mut u8, classes_len: usize, marks: *mut u8, marks_len: usize,
                 ) -> u8;
                 #[link_name = concat!("veltzuma_rectilinear_interp_one", $suffix)]
                 fn rectilinear_interp_one(
                     axis_count: usize, counts: *const usize, counts_len: usize, axes: *const $T, axes_len: usize,
                     vals: *const $T, vals_len: usize, mode: u8, x: *const $T, x_len: usize,
                     refusal: *mut usize, refusal_len: usize, value: *mut $T, value_len: usize,
+                    marks: *mut u8, marks_len: usize,
                 ) -> u8;
                 #[link_name = concat!("veltzuma_rectilinear_interp_one_grad", $suffix)]
                 fn rectilinear_interp_one_grad(
                     axis_count: usize, counts: *const usize, counts_len: usize, axes: *const $T, axes_len: usize,
                     vals: *const $T, vals_len: usize, mode: u8, x: *const $T, x_len: usize,
                     refusal: *mut usize, refusal_len: usize, gradient: *mut $T, gradient_len: usize,
+                    marks: *mut u8, marks_len: usize,
                 ) -> u8;
                 #[link_name = concat!("veltzuma_rectilinear_interp", $suffix)]
                 fn rectilinear_interp(
@@ -99,6 +110,9 @@ macro_rules! calls {
                 ) -> u8;
             }
             impl Calls for $T {
+                fn version() -> u32 {
+                    unsafe { version() }
+                }
                 fn new(g: &Grid<$T>, refusal: &mut [usize]) -> u8 {
                     unsafe {
                         if g.rectilinear {
@@ -115,14 +129,16 @@ macro_rules! calls {
                         }
                     }
                 }
-                fn get_loc(g: &Grid<$T>, x: &[$T], refusal: &mut [usize], origins: &mut [usize], classes: &mut [u8]) -> u8 {
+                fn get_loc(
+                    g: &Grid<$T>, x: &[$T], refusal: &mut [usize], origins: &mut [usize], classes: &mut [u8], marks: &mut [u8],
+                ) -> u8 {
                     unsafe {
                         if g.rectilinear {
                             rectilinear_get_loc(
                                 g.counts.len(), g.counts.as_ptr(), g.counts.len(), g.joined.as_ptr(), g.joined.len(),
                                 g.values.as_ptr(), g.values.len(), g.mode, x.as_ptr(), x.len(),
                                 refusal.as_mut_ptr(), refusal.len(), origins.as_mut_ptr(), origins.len(),
-                                classes.as_mut_ptr(), classes.len(),
+                                classes.as_mut_ptr(), classes.len(), marks.as_mut_ptr(), marks.len(),
                             )
                         } else {
                             regular_get_loc(
@@ -130,41 +146,45 @@ macro_rules! calls {
                                 g.steps.as_ptr(), g.steps.len(), g.values.as_ptr(), g.values.len(), g.mode,
                                 x.as_ptr(), x.len(), refusal.as_mut_ptr(), refusal.len(),
                                 origins.as_mut_ptr(), origins.len(), classes.as_mut_ptr(), classes.len(),
+                                marks.as_mut_ptr(), marks.len(),
                             )
                         }
                     }
                 }
-                fn interp_one(g: &Grid<$T>, x: &[$T], refusal: &mut [usize], value: &mut [$T]) -> u8 {
+                fn interp_one(g: &Grid<$T>, x: &[$T], refusal: &mut [usize], value: &mut [$T], marks: &mut [u8]) -> u8 {
                     unsafe {
                         if g.rectilinear {
                             rectilinear_interp_one(
                                 g.counts.len(), g.counts.as_ptr(), g.counts.len(), g.joined.as_ptr(), g.joined.len(),
                                 g.values.as_ptr(), g.values.len(), g.mode, x.as_ptr(), x.len(),
                                 refusal.as_mut_ptr(), refusal.len(), value.as_mut_ptr(), value.len(),
+                                marks.as_mut_ptr(), marks.len(),
                             )
                         } else {
                             regular_interp_one(
                                 g.counts.len(), g.counts.as_ptr(), g.counts.len(), g.starts.as_ptr(), g.starts.len(),
                                 g.steps.as_ptr(), g.steps.len(), g.values.as_ptr(), g.values.len(), g.mode,
                                 x.as_ptr(), x.len(), refusal.as_mut_ptr(), refusal.len(), value.as_mut_ptr(), value.len(),
+                                marks.as_mut_ptr(), marks.len(),
                             )
                         }
                     }
                 }
-                fn interp_one_grad(g: &Grid<$T>, x: &[$T], refusal: &mut [usize], gradient: &mut [$T]) -> u8 {
+                fn interp_one_grad(g: &Grid<$T>, x: &[$T], refusal: &mut [usize], gradient: &mut [$T], marks: &mut [u8]) -> u8 {
                     unsafe {
                         if g.rectilinear {
                             rectilinear_interp_one_grad(
                                 g.counts.len(), g.counts.as_ptr(), g.counts.len(), g.joined.as_ptr(), g.joined.len(),
                                 g.values.as_ptr(), g.values.len(), g.mode, x.as_ptr(), x.len(),
                                 refusal.as_mut_ptr(), refusal.len(), gradient.as_mut_ptr(), gradient.len(),
+                                marks.as_mut_ptr(), marks.len(),
                             )
                         } else {
                             regular_interp_one_grad(
                                 g.counts.len(), g.counts.as_ptr(), g.counts.len(), g.starts.as_ptr(), g.starts.len(),
                                 g.steps.as_ptr(), g.steps.len(), g.values.as_ptr(), g.values.len(), g.mode,
                                 x.as_ptr(), x.len(), refusal.as_mut_ptr(), refusal.len(),
-                                gradient.as_mut_ptr(), gradient.len(),
+                                gradient.as_mut_ptr(), gradient.len(), marks.as_mut_ptr(), marks.len(),
                             )
                         }
                     }

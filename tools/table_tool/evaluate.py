@@ -46,7 +46,7 @@ def header(table):
     found = names + [table.name] + ['slope along ' + name for name in names]
     for name in names:
         found += ['origin on ' + name, 'class on ' + name]
-    return found + ['refusal']
+    return found + ['outside on ' + name for name in names] + ['refusal']
 
 
 def rows(table, grid, queries, mode, in_bits):
@@ -62,9 +62,9 @@ def rows(table, grid, queries, mode, in_bits):
             line += cells(value) + cells(slopes)
             for place in places:
                 line += [place.origin, place.saturation]
-            yield line + [''], 0
+            yield line + ['below' if place.below else 'above' if place.above else '' for place in places] + [''], 0
         else:
-            yield line + [''] * (1 + 3 * len(x)) + [refusal], 1
+            yield line + [''] * (1 + 4 * len(x)) + [refusal], 1
 
 
 class Progress:

@@ -54,8 +54,9 @@ def parser():
     found.add_argument('table')
     width(found)
 
-    found = command('eval', evaluated, 'answers queries: value, slope along each axis, place and class on each axis, as CSV',
+    found = command('eval', evaluated, 'answers queries: value, slope along each axis, place and class on each axis, and past which end of it they are, as CSV',
                     f'eval {SAMPLE} --at 55,31.5,-120 --at 55,31.5,0 --mode held',
+                    "\n'outside on' an axis is 'below' where the query, as given, is below its first entry, 'above' where it is above its last, and else empty."
                     '\nA query that is refused says so in its line, and the others are answered. Exit status: 0 all answered, 1 some refused, 2 bad input.')
     found.add_argument('table')
     found.add_argument('--at', action='append', metavar='X,Y,..', help='a query, one coordinate for each axis; there may be several')

@@ -49,7 +49,8 @@ def _alone(grid, points, mode):
     try:
         for x in points:
             try:
-                found.append(grid.interp_one(x, mode))
+                # Without its marks, which take more room than the number.
+                found.append(float(grid.interp_one(x, mode)))
             except veltzuma.Refusal:
                 found.append(None)
             progress.add()

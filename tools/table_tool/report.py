@@ -171,6 +171,9 @@ def _proved(table, verdicts):
          'cannot change it, neither the value nor a slope.', '8.5', '“Nodes and blocks”'),
         ('Held ends.', 'Within the premises and with held ends, a query that on each axis is at an entry or past an end answers with the number '
          'stored at those entries and ends.', '8.6', '“Nodes and blocks”'),
+        ('Truly outside.', 'The answer to a single query says for each axis whether the query, as given, lay below the first entry or above the '
+         'last, whatever is followed past the ends. Within the premises, a query at a stored point, one at an end too, is marked on no axis. '
+         f'{applies}', '3.8 and 8.8', '“Marks”'),
     ]
     out = ['<section class="together">', '<h2>What is proved about every answer</h2>',
            '<p>Not sampled: each statement is a theorem about the reader’s own code, checked by the prover of the kit below.</p>', '<ul>']

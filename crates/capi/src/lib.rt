@@ -6,7 +6,7 @@ ghost use Rattle.multicubic.specs.declared.EdgeMode.{EdgeMode};
 ghost use Rattle.slices.specs.Lent.{setBy};
 ghost use Rattle.regular_lent.specs.Regular.{regularFrom};
 ghost use Rattle.rectilinear_lent.specs.Rectilinear.{rectilinearFrom};
-ghost use Rattle.capi.specs.Calls.{newLeaves, getLocLeaves, interpOneLeaves, interpOneGradLeaves, interpLeaves, interpGradLeaves};
+ghost use Rattle.capi.specs.Calls.{version, newLeaves, getLocLeaves, interpOneLeaves, interpOneGradLeaves, interpLeaves, interpGradLeaves};
 use slices::axes_from;
 use slices::check_query_slices;
 use slices::check_slices;
@@ -20,6 +20,14 @@ use told::tell;
 use told::tell_gradient;
 use told::tell_places;
 use told::tell_value;
+
+// The version of these calls, which a caller compares with the one that its declarations are of.
+#[no_mangle]
+pub extern "C" fn veltzuma_version() -> u32
+    ensures { λ r. ⌜ r ≡ version ⌝ }
+{
+    2
+}
 
 // Takes a grid or turns it away.
 #[no_mangle]
@@ -43,7 +51,7 @@ pub extern "C" fn veltzuma_regular_new(
     tell(outcome, refusal)
 }
 
-// The place of a query: origin and class on every axis.
+// The place of a query: origin, class and marks on every axis.
 #[no_mangle]
 pub extern "C" fn veltzuma_regular_get_loc(
     axis_count: usize,
@@ -56,12 +64,13 @@ pub extern "C" fn veltzuma_regular_get_loc(
     refusal: &mut [usize],
     origins: &mut [usize],
     classes: &mut [u8],
+    marks: &mut [u8],
 ) -> u8
     ensures { λ r. ⌜
-        record { number = r; refusal = now (refusal .exit); written = (now (origins .exit), now (classes .exit)) }
+        record { number = r; refusal = now (refusal .exit); written = ((now (origins .exit), now (classes .exit)), now (marks .exit)) }
         ≡ getLocLeaves
         (setBy (regularFrom binary64 «axis_count» (now (counts .entry)) (now (starts .entry)) (now (steps .entry)) (now (vals .entry))) mode)
-        (now (x .entry)) (now (refusal .entry)) (now (origins .entry)) (now (classes .entry))
+        (now (x .entry)) (now (refusal .entry)) (now (origins .entry)) (now (classes .entry)) (now (marks .entry))
         ⌝ }
 {
     let shortest = named(mode, shortest_of(counts.len(), starts.len(), steps.len()));
@@ -73,14 +82,15 @@ pub extern "C" fn veltzuma_regular_get_loc(
         refusal.len(),
         room,
         axis_count,
+        marks.len(),
     );
     let axes = axes_from(counts, starts, steps);
     let at = query_from(x);
     let answer = regular_lent::get_loc(slices, axis_count, axes, vals, mode_of(mode), at);
-    tell_places(answer, axis_count, refusal, origins, classes)
+    tell_places(answer, axis_count, refusal, origins, classes, marks)
 }
 
-// The value at a query.
+// The value at a query, and its marks.
 #[no_mangle]
 pub extern "C" fn veltzuma_regular_interp_one(
     axis_count: usize,
@@ -92,24 +102,33 @@ pub extern "C" fn veltzuma_regular_interp_one(
     x: &[f64],
     refusal: &mut [usize],
     value: &mut [f64],
+    marks: &mut [u8],
 ) -> u8
     ensures { λ r. ⌜
-        record { number = r; refusal = now (refusal .exit); written = now (value .exit) }
+        record { number = r; refusal = now (refusal .exit); written = (now (value .exit), now (marks .exit)) }
         ≡ interpOneLeaves binary64
         (setBy (regularFrom binary64 «axis_count» (now (counts .entry)) (now (starts .entry)) (now (steps .entry)) (now (vals .entry))) mode)
-        (now (x .entry)) (now (refusal .entry)) (now (value .entry))
+        (now (x .entry)) (now (refusal .entry)) (now (value .entry)) (now (marks .entry))
         ⌝ }
 {
     let shortest = named(mode, shortest_of(counts.len(), starts.len(), steps.len()));
     let room = value.len();
-    let slices = check_query_slices(axis_count, shortest, x.len(), refusal.len(), room, 1);
+    let slices = check_query_slices(
+        axis_count,
+        shortest,
+        x.len(),
+        refusal.len(),
+        room,
+        1,
+        marks.len(),
+    );
     let axes = axes_from(counts, starts, steps);
     let at = query_from(x);
     let answer = regular_lent::interp_one(slices, axis_count, axes, vals, mode_of(mode), at);
-    tell_value(answer, refusal, value)
+    tell_value(answer, axis_count, refusal, value, marks)
 }
 
-// The gradient at a query.
+// The gradient at a query, and its marks.
 #[no_mangle]
 pub extern "C" fn veltzuma_regular_interp_one_grad(
     axis_count: usize,
@@ -121,12 +140,13 @@ pub extern "C" fn veltzuma_regular_interp_one_grad(
     x: &[f64],
     refusal: &mut [usize],
     gradient: &mut [f64],
+    marks: &mut [u8],
 ) -> u8
     ensures { λ r. ⌜
-        record { number = r; refusal = now (refusal .exit); written = now (gradient .exit) }
+        record { number = r; refusal = now (refusal .exit); written = (now (gradient .exit), now (marks .exit)) }
         ≡ interpOneGradLeaves binary64
         (setBy (regularFrom binary64 «axis_count» (now (counts .entry)) (now (starts .entry)) (now (steps .entry)) (now (vals .entry))) mode)
-        (now (x .entry)) (now (refusal .entry)) (now (gradient .entry))
+        (now (x .entry)) (now (refusal .entry)) (now (gradient .entry)) (now (marks .entry))
         ⌝ }
 {
     let shortest = named(mode, shortest_of(counts.len(), starts.len(), steps.len()));
@@ -138,11 +158,12 @@ pub extern "C" fn veltzuma_regular_interp_one_grad(
         refusal.len(),
         room,
         axis_count,
+        marks.len(),
     );
     let axes = axes_from(counts, starts, steps);
     let at = query_from(x);
     let answer = regular_lent::interp_one_grad(slices, axis_count, axes, vals, mode_of(mode), at);
-    tell_gradient(answer, axis_count, refusal, gradient)
+    tell_gradient(answer, axis_count, refusal, gradient, marks)
 }
 
 // The values of a batch.
@@ -227,7 +248,7 @@ pub extern "C" fn veltzuma_rectilinear_new(
     tell(outcome, refusal)
 }
 
-// The place of a query: origin and class on every axis.
+// The place of a query: origin, class and marks on every axis.
 #[no_mangle]
 pub extern "C" fn veltzuma_rectilinear_get_loc(
     axis_count: usize,
@@ -239,12 +260,13 @@ pub extern "C" fn veltzuma_rectilinear_get_loc(
     refusal: &mut [usize],
     origins: &mut [usize],
     classes: &mut [u8],
+    marks: &mut [u8],
 ) -> u8
     ensures { λ r. ⌜
-        record { number = r; refusal = now (refusal .exit); written = (now (origins .exit), now (classes .exit)) }
+        record { number = r; refusal = now (refusal .exit); written = ((now (origins .exit), now (classes .exit)), now (marks .exit)) }
         ≡ getLocLeaves
         (setBy (rectilinearFrom binary64 «axis_count» (now (counts .entry)) (now (axes .entry)) (now (vals .entry))) mode)
-        (now (x .entry)) (now (refusal .entry)) (now (origins .entry)) (now (classes .entry))
+        (now (x .entry)) (now (refusal .entry)) (now (origins .entry)) (now (classes .entry)) (now (marks .entry))
         ⌝ }
 {
     let shortest = named(mode, counts.len());
@@ -256,14 +278,15 @@ pub extern "C" fn veltzuma_rectilinear_get_loc(
         refusal.len(),
         room,
         axis_count,
+        marks.len(),
     );
     let four = counts_from(counts);
     let at = query_from(x);
     let answer = rectilinear_lent::get_loc(slices, axis_count, four, axes, vals, mode_of(mode), at);
-    tell_places(answer, axis_count, refusal, origins, classes)
+    tell_places(answer, axis_count, refusal, origins, classes, marks)
 }
 
-// The value at a query.
+// The value at a query, and its marks.
 #[no_mangle]
 pub extern "C" fn veltzuma_rectilinear_interp_one(
     axis_count: usize,
@@ -274,17 +297,26 @@ pub extern "C" fn veltzuma_rectilinear_interp_one(
     x: &[f64],
     refusal: &mut [usize],
     value: &mut [f64],
+    marks: &mut [u8],
 ) -> u8
     ensures { λ r. ⌜
-        record { number = r; refusal = now (refusal .exit); written = now (value .exit) }
+        record { number = r; refusal = now (refusal .exit); written = (now (value .exit), now (marks .exit)) }
         ≡ interpOneLeaves binary64
         (setBy (rectilinearFrom binary64 «axis_count» (now (counts .entry)) (now (axes .entry)) (now (vals .entry))) mode)
-        (now (x .entry)) (now (refusal .entry)) (now (value .entry))
+        (now (x .entry)) (now (refusal .entry)) (now (value .entry)) (now (marks .entry))
         ⌝ }
 {
     let shortest = named(mode, counts.len());
     let room = value.len();
-    let slices = check_query_slices(axis_count, shortest, x.len(), refusal.len(), room, 1);
+    let slices = check_query_slices(
+        axis_count,
+        shortest,
+        x.len(),
+        refusal.len(),
+        room,
+        1,
+        marks.len(),
+    );
     let four = counts_from(counts);
     let at = query_from(x);
     let answer = rectilinear_lent::interp_one(
@@ -296,10 +328,10 @@ pub extern "C" fn veltzuma_rectilinear_interp_one(
         mode_of(mode),
         at,
     );
-    tell_value(answer, refusal, value)
+    tell_value(answer, axis_count, refusal, value, marks)
 }
 
-// The gradient at a query.
+// The gradient at a query, and its marks.
 #[no_mangle]
 pub extern "C" fn veltzuma_rectilinear_interp_one_grad(
     axis_count: usize,
@@ -310,12 +342,13 @@ pub extern "C" fn veltzuma_rectilinear_interp_one_grad(
     x: &[f64],
     refusal: &mut [usize],
     gradient: &mut [f64],
+    marks: &mut [u8],
 ) -> u8
     ensures { λ r. ⌜
-        record { number = r; refusal = now (refusal .exit); written = now (gradient .exit) }
+        record { number = r; refusal = now (refusal .exit); written = (now (gradient .exit), now (marks .exit)) }
         ≡ interpOneGradLeaves binary64
         (setBy (rectilinearFrom binary64 «axis_count» (now (counts .entry)) (now (axes .entry)) (now (vals .entry))) mode)
-        (now (x .entry)) (now (refusal .entry)) (now (gradient .entry))
+        (now (x .entry)) (now (refusal .entry)) (now (gradient .entry)) (now (marks .entry))
         ⌝ }
 {
     let shortest = named(mode, counts.len());
@@ -327,6 +360,7 @@ pub extern "C" fn veltzuma_rectilinear_interp_one_grad(
         refusal.len(),
         room,
         axis_count,
+        marks.len(),
     );
     let four = counts_from(counts);
     let at = query_from(x);
@@ -339,7 +373,7 @@ pub extern "C" fn veltzuma_rectilinear_interp_one_grad(
         mode_of(mode),
         at,
     );
-    tell_gradient(answer, axis_count, refusal, gradient)
+    tell_gradient(answer, axis_count, refusal, gradient, marks)
 }
 
 // The values of a batch.

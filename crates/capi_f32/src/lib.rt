@@ -7,7 +7,7 @@ ghost use Rattle.multicubic.specs.declared.EdgeMode.{EdgeMode};
 ghost use Rattle.slices.specs.Lent.{setBy};
 ghost use Rattle.regular_lent.specs.Regular.{regularFrom};
 ghost use Rattle.rectilinear_lent.specs.Rectilinear.{rectilinearFrom};
-ghost use Rattle.capi.specs.Calls.{newLeaves, getLocLeaves, interpOneLeaves, interpOneGradLeaves, interpLeaves, interpGradLeaves};
+ghost use Rattle.capi.specs.Calls.{version, newLeaves, getLocLeaves, interpOneLeaves, interpOneGradLeaves, interpLeaves, interpGradLeaves};
 use slices::check_query_slices;
 use slices::check_slices;
 use slices::counts_from;
@@ -21,6 +21,14 @@ use told::tell;
 use told::tell_places;
 use told_f32::tell_gradient;
 use told_f32::tell_value;
+
+// The version of these calls, which a caller compares with the one that its declarations are of.
+#[no_mangle]
+pub extern "C" fn veltzuma_version_f32() -> u32
+    ensures { λ r. ⌜ r ≡ version ⌝ }
+{
+    2
+}
 
 // Takes a grid or turns it away.
 #[no_mangle]
@@ -44,7 +52,7 @@ pub extern "C" fn veltzuma_regular_new_f32(
     tell(outcome, refusal)
 }
 
-// The place of a query: origin and class on every axis.
+// The place of a query: origin, class and marks on every axis.
 #[no_mangle]
 pub extern "C" fn veltzuma_regular_get_loc_f32(
     axis_count: usize,
@@ -57,12 +65,13 @@ pub extern "C" fn veltzuma_regular_get_loc_f32(
     refusal: &mut [usize],
     origins: &mut [usize],
     classes: &mut [u8],
+    marks: &mut [u8],
 ) -> u8
     ensures { λ r. ⌜
-        record { number = r; refusal = now (refusal .exit); written = (now (origins .exit), now (classes .exit)) }
+        record { number = r; refusal = now (refusal .exit); written = ((now (origins .exit), now (classes .exit)), now (marks .exit)) }
         ≡ getLocLeaves
         (setBy (regularFrom binary32 «axis_count» (now (counts .entry)) (now (starts .entry)) (now (steps .entry)) (now (vals .entry))) mode)
-        (now (x .entry)) (now (refusal .entry)) (now (origins .entry)) (now (classes .entry))
+        (now (x .entry)) (now (refusal .entry)) (now (origins .entry)) (now (classes .entry)) (now (marks .entry))
         ⌝ }
 {
     let shortest = named(mode, shortest_of(counts.len(), starts.len(), steps.len()));
@@ -74,14 +83,15 @@ pub extern "C" fn veltzuma_regular_get_loc_f32(
         refusal.len(),
         room,
         axis_count,
+        marks.len(),
     );
     let axes = axes_from(counts, starts, steps);
     let at = query_from(x);
     let answer = regular_lent_f32::get_loc(slices, axis_count, axes, vals, mode_of(mode), at);
-    tell_places(answer, axis_count, refusal, origins, classes)
+    tell_places(answer, axis_count, refusal, origins, classes, marks)
 }
 
-// The value at a query.
+// The value at a query, and its marks.
 #[no_mangle]
 pub extern "C" fn veltzuma_regular_interp_one_f32(
     axis_count: usize,
@@ -93,24 +103,33 @@ pub extern "C" fn veltzuma_regular_interp_one_f32(
     x: &[f32],
     refusal: &mut [usize],
     value: &mut [f32],
+    marks: &mut [u8],
 ) -> u8
     ensures { λ r. ⌜
-        record { number = r; refusal = now (refusal .exit); written = now (value .exit) }
+        record { number = r; refusal = now (refusal .exit); written = (now (value .exit), now (marks .exit)) }
         ≡ interpOneLeaves binary32
         (setBy (regularFrom binary32 «axis_count» (now (counts .entry)) (now (starts .entry)) (now (steps .entry)) (now (vals .entry))) mode)
-        (now (x .entry)) (now (refusal .entry)) (now (value .entry))
+        (now (x .entry)) (now (refusal .entry)) (now (value .entry)) (now (marks .entry))
         ⌝ }
 {
     let shortest = named(mode, shortest_of(counts.len(), starts.len(), steps.len()));
     let room = value.len();
-    let slices = check_query_slices(axis_count, shortest, x.len(), refusal.len(), room, 1);
+    let slices = check_query_slices(
+        axis_count,
+        shortest,
+        x.len(),
+        refusal.len(),
+        room,
+        1,
+        marks.len(),
+    );
     let axes = axes_from(counts, starts, steps);
     let at = query_from(x);
     let answer = regular_lent_f32::interp_one(slices, axis_count, axes, vals, mode_of(mode), at);
-    tell_value(answer, refusal, value)
+    tell_value(answer, axis_count, refusal, value, marks)
 }
 
-// The gradient at a query.
+// The gradient at a query, and its marks.
 #[no_mangle]
 pub extern "C" fn veltzuma_regular_interp_one_grad_f32(
     axis_count: usize,
@@ -122,12 +141,13 @@ pub extern "C" fn veltzuma_regular_interp_one_grad_f32(
     x: &[f32],
     refusal: &mut [usize],
     gradient: &mut [f32],
+    marks: &mut [u8],
 ) -> u8
     ensures { λ r. ⌜
-        record { number = r; refusal = now (refusal .exit); written = now (gradient .exit) }
+        record { number = r; refusal = now (refusal .exit); written = (now (gradient .exit), now (marks .exit)) }
         ≡ interpOneGradLeaves binary32
         (setBy (regularFrom binary32 «axis_count» (now (counts .entry)) (now (starts .entry)) (now (steps .entry)) (now (vals .entry))) mode)
-        (now (x .entry)) (now (refusal .entry)) (now (gradient .entry))
+        (now (x .entry)) (now (refusal .entry)) (now (gradient .entry)) (now (marks .entry))
         ⌝ }
 {
     let shortest = named(mode, shortest_of(counts.len(), starts.len(), steps.len()));
@@ -139,6 +159,7 @@ pub extern "C" fn veltzuma_regular_interp_one_grad_f32(
         refusal.len(),
         room,
         axis_count,
+        marks.len(),
     );
     let axes = axes_from(counts, starts, steps);
     let at = query_from(x);
@@ -150,7 +171,7 @@ pub extern "C" fn veltzuma_regular_interp_one_grad_f32(
         mode_of(mode),
         at,
     );
-    tell_gradient(answer, axis_count, refusal, gradient)
+    tell_gradient(answer, axis_count, refusal, gradient, marks)
 }
 
 // The values of a batch.
@@ -243,7 +264,7 @@ pub extern "C" fn veltzuma_rectilinear_new_f32(
     tell(outcome, refusal)
 }
 
-// The place of a query: origin and class on every axis.
+// The place of a query: origin, class and marks on every axis.
 #[no_mangle]
 pub extern "C" fn veltzuma_rectilinear_get_loc_f32(
     axis_count: usize,
@@ -255,12 +276,13 @@ pub extern "C" fn veltzuma_rectilinear_get_loc_f32(
     refusal: &mut [usize],
     origins: &mut [usize],
     classes: &mut [u8],
+    marks: &mut [u8],
 ) -> u8
     ensures { λ r. ⌜
-        record { number = r; refusal = now (refusal .exit); written = (now (origins .exit), now (classes .exit)) }
+        record { number = r; refusal = now (refusal .exit); written = ((now (origins .exit), now (classes .exit)), now (marks .exit)) }
         ≡ getLocLeaves
         (setBy (rectilinearFrom binary32 «axis_count» (now (counts .entry)) (now (axes .entry)) (now (vals .entry))) mode)
-        (now (x .entry)) (now (refusal .entry)) (now (origins .entry)) (now (classes .entry))
+        (now (x .entry)) (now (refusal .entry)) (now (origins .entry)) (now (classes .entry)) (now (marks .entry))
         ⌝ }
 {
     let shortest = named(mode, counts.len());
@@ -272,6 +294,7 @@ pub extern "C" fn veltzuma_rectilinear_get_loc_f32(
         refusal.len(),
         room,
         axis_count,
+        marks.len(),
     );
     let four = counts_from(counts);
     let at = query_from(x);
@@ -284,10 +307,10 @@ pub extern "C" fn veltzuma_rectilinear_get_loc_f32(
         mode_of(mode),
         at,
     );
-    tell_places(answer, axis_count, refusal, origins, classes)
+    tell_places(answer, axis_count, refusal, origins, classes, marks)
 }
 
-// The value at a query.
+// The value at a query, and its marks.
 #[no_mangle]
 pub extern "C" fn veltzuma_rectilinear_interp_one_f32(
     axis_count: usize,
@@ -298,17 +321,26 @@ pub extern "C" fn veltzuma_rectilinear_interp_one_f32(
     x: &[f32],
     refusal: &mut [usize],
     value: &mut [f32],
+    marks: &mut [u8],
 ) -> u8
     ensures { λ r. ⌜
-        record { number = r; refusal = now (refusal .exit); written = now (value .exit) }
+        record { number = r; refusal = now (refusal .exit); written = (now (value .exit), now (marks .exit)) }
         ≡ interpOneLeaves binary32
         (setBy (rectilinearFrom binary32 «axis_count» (now (counts .entry)) (now (axes .entry)) (now (vals .entry))) mode)
-        (now (x .entry)) (now (refusal .entry)) (now (value .entry))
+        (now (x .entry)) (now (refusal .entry)) (now (value .entry)) (now (marks .entry))
         ⌝ }
 {
     let shortest = named(mode, counts.len());
     let room = value.len();
-    let slices = check_query_slices(axis_count, shortest, x.len(), refusal.len(), room, 1);
+    let slices = check_query_slices(
+        axis_count,
+        shortest,
+        x.len(),
+        refusal.len(),
+        room,
+        1,
+        marks.len(),
+    );
     let four = counts_from(counts);
     let at = query_from(x);
     let answer = rectilinear_lent_f32::interp_one(
@@ -320,10 +352,10 @@ pub extern "C" fn veltzuma_rectilinear_interp_one_f32(
         mode_of(mode),
         at,
     );
-    tell_value(answer, refusal, value)
+    tell_value(answer, axis_count, refusal, value, marks)
 }
 
-// The gradient at a query.
+// The gradient at a query, and its marks.
 #[no_mangle]
 pub extern "C" fn veltzuma_rectilinear_interp_one_grad_f32(
     axis_count: usize,
@@ -334,12 +366,13 @@ pub extern "C" fn veltzuma_rectilinear_interp_one_grad_f32(
     x: &[f32],
     refusal: &mut [usize],
     gradient: &mut [f32],
+    marks: &mut [u8],
 ) -> u8
     ensures { λ r. ⌜
-        record { number = r; refusal = now (refusal .exit); written = now (gradient .exit) }
+        record { number = r; refusal = now (refusal .exit); written = (now (gradient .exit), now (marks .exit)) }
         ≡ interpOneGradLeaves binary32
         (setBy (rectilinearFrom binary32 «axis_count» (now (counts .entry)) (now (axes .entry)) (now (vals .entry))) mode)
-        (now (x .entry)) (now (refusal .entry)) (now (gradient .entry))
+        (now (x .entry)) (now (refusal .entry)) (now (gradient .entry)) (now (marks .entry))
         ⌝ }
 {
     let shortest = named(mode, counts.len());
@@ -351,6 +384,7 @@ pub extern "C" fn veltzuma_rectilinear_interp_one_grad_f32(
         refusal.len(),
         room,
         axis_count,
+        marks.len(),
     );
     let four = counts_from(counts);
     let at = query_from(x);
@@ -363,7 +397,7 @@ pub extern "C" fn veltzuma_rectilinear_interp_one_grad_f32(
         mode_of(mode),
         at,
     );
-    tell_gradient(answer, axis_count, refusal, gradient)
+    tell_gradient(answer, axis_count, refusal, gradient, marks)
 }
 
 // The values of a batch.

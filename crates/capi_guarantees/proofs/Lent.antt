@@ -58,19 +58,19 @@ module _ (s : Gathered) (refusal : ℕ) where
   refusal-holds e = ltb-false refusal 2 (refuse-accepted _ 7 (then-accepted (refuse (ltb (s .shortest) (s .grid .axis-count)) 3) _ (lower-accepted slices (s .grid .checked) e .0) .1))
 
 -- to a single query: what is to be written has room
-module _ (s : Gathered) (query refusal room need : ℕ) where
+module _ (s : Gathered) (query refusal room need marks : ℕ) where
   abbrev query-slices : Outcome
-  query-slices = querySlicesOf (s .grid .axis-count) (s .shortest) query refusal room need
+  query-slices = querySlicesOf (s .grid .axis-count) (s .shortest) query refusal room need marks
 
-  pub accepted-query : IsAccepted (lentToQuery s query refusal room need) → IsAccepted (s .grid)
+  pub accepted-query : IsAccepted (lentToQuery s query refusal room need marks) → IsAccepted (s .grid)
   accepted-query = accepted query-slices (s .grid)
 
-  pub supplied-to-query : {f : Format} {premises : Type 0} → Supplied f premises (s .grid) → Supplied f premises (lentToQuery s query refusal room need)
+  pub supplied-to-query : {f : Format} {premises : Type 0} → Supplied f premises (s .grid) → Supplied f premises (lentToQuery s query refusal room need marks)
   supplied-to-query = lent-supplied query-slices (s .grid)
 
-  pub counted-to-query : Counted (s .grid) → Counted (lentToQuery s query refusal room need)
+  pub counted-to-query : Counted (s .grid) → Counted (lentToQuery s query refusal room need marks)
   counted-to-query = lent-counted query-slices (s .grid)
 
-  pub has-room : IsAccepted (lentToQuery s query refusal room need) → need ≤ room
+  pub has-room : IsAccepted (lentToQuery s query refusal room need marks) → need ≤ room
   unfolding querySlicesOf
-  has-room e = ltb-false room need (refuse-accepted _ 7 (then-accepted (slicesOf (s .grid .axis-count) (min (s .shortest) query) refusal) _ (lower-accepted query-slices (s .grid .checked) e .0) .1))
+  has-room e = ltb-false room need (refuse-accepted _ 7 (then-accepted (refuse (ltb room need) 7) _ (then-accepted (slicesOf (s .grid .axis-count) (min (s .shortest) query) refusal) _ (lower-accepted query-slices (s .grid .checked) e .0) .1) .0))

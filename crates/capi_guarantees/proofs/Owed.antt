@@ -23,23 +23,23 @@ use Rattle.capi_guarantees.proofs.Lent.{accepted-to, supplied-to, count
 use Rattle.capi_guarantees.proofs.Read.{value-read, gradient-read, number-read, query-read}
 
 module _ (f : Format) (premises : Type 0) (s s' : Gathered) where
-  module _ (x out out' : List Float) (refusal refusal' : List ℕ) where
+  module _ (x out out' : List Float) (refusal refusal' marks marks' : List ℕ) where
     abbrev query : ℕ → Float
     query = at (queryFrom x)
 
     abbrev one : Grid
-    one = lentToQuery s (length x) (length refusal) (length out) 1
+    one = lentToQuery s (length x) (length refusal) (length out) 1 (length marks)
 
     abbrev one' : Grid
-    one' = lentToQuery s' (length x) (length refusal') (length out') 1
+    one' = lentToQuery s' (length x) (length refusal') (length out') 1 (length marks')
 
-    of-value : Supplied f premises (s .grid) → Supplied f premises (s' .grid) → Fits f x → OfValue premises one one' query (interpOneLeaves f s x refusal out) (interpOneLeaves f s' x refusal' out')
+    of-value : Supplied f premises (s .grid) → Supplied f premises (s' .grid) → Fits f x → OfValue premises one one' query (interpOneLeaves f s x refusal out marks) (interpOneLeaves f s' x refusal' out' marks')
     of-value kind kind' fit =
-        let supplied = supplied-to-query s (length x) (length refusal) (length out) 1 kind in
-        let supplied' = supplied-to-query s' (length x) (length refusal') (length out') 1 kind' in
+        let supplied = supplied-to-query s (length x) (length refusal) (length out) 1 (length marks) kind in
+        let supplied' = supplied-to-query s' (length x) (length refusal') (length out') 1 (length marks') kind' in
         let fits = query-typed f x fit in
-        let read = value-read f s x refusal out in
-        let read' = value-read f s' x refusal' out' in
+        let read = value-read f s x refusal marks out in
+        let read' = value-read f s' x refusal' marks' out' in
         record {
           node = λ node h. let r = node-rule f premises one supplied query fits (valueAnswer f one query) refl node h in (r .0, read (r .0) (h .0) (r .1), r .2);
           corollary = λ node h h'.
@@ -51,18 +51,18 @@ module _ (f : Format) (premises : Type 0) (s s' : Gathered) where
         }
 
     abbrev each : Grid
-    each = lentToQuery s (length x) (length refusal) (length out) (s .grid .axis-count)
+    each = lentToQuery s (length x) (length refusal) (length out) (s .grid .axis-count) (length marks)
 
     abbrev each' : Grid
-    each' = lentToQuery s' (length x) (length refusal') (length out') (s' .grid .axis-count)
+    each' = lentToQuery s' (length x) (length refusal') (length out') (s' .grid .axis-count) (length marks')
 
-    of-gradient : Counted (s .grid) → Counted (s' .grid) → OfGradient each each' query (interpOneGradLeaves f s x refusal out) (interpOneGradLeaves f s' x refusal' out')
+    of-gradient : Counted (s .grid) → Counted (s' .grid) → OfGradient each each' query (interpOneGradLeaves f s x refusal out marks) (interpOneGradLeaves f s' x refusal' out' marks')
     of-gradient counted counted' ps h =
         let r = block-gradient f each each' query (outcomeOf each query) (outcomeOf each' query) (gradientAnswer f each query) (gradientAnswer f each' query) refl refl refl refl ps h in
-        let few = counted-to-query s (length x) (length refusal) (length out) (s .grid .axis-count) counted (h .0) .1 in
-        let few' = counted-to-query s' (length x) (length refusal') (length out') (s' .grid .axis-count) counted' (h .1) .1 in
-        let read = gradient-read f s x refusal out few (h .0) (r .0) in
-        let read' = gradient-read f s' x refusal' out' few' (h .1) (r .1) in
+        let few = counted-to-query s (length x) (length refusal) (length out) (s .grid .axis-count) (length marks) counted (h .0) .1 in
+        let few' = counted-to-query s' (length x) (length refusal') (length out') (s' .grid .axis-count) (length marks') counted' (h .1) .1 in
+        let read = gradient-read f s x refusal marks out few (h .0) (r .0) in
+        let read' = gradient-read f s' x refusal' marks' out' few' (h .1) (r .1) in
         (read .0, read' .0, read .1 ∙ (λ i. take (h .2 i) (r .2 i)) ∙ sym (read' .1))
 
   module _ (queries out out' : List Float) (refusal refusal' : List ℕ) where
@@ -93,20 +93,20 @@ module _ (f : Format) (premises : Type 0) (s s' : Gathered) where
 
   pub owed : Supplied f premises (s .grid) → Supplied f premises (s' .grid) → Counted (s .grid) → Counted (s' .grid) → Owed f premises s s'
   owed kind kind' counted counted' = record {
-    value = λ x out out' refusal refusal'. of-value x out out' refusal refusal' kind kind';
-    gradient = λ x out out' refusal refusal'. of-gradient x out out' refusal refusal' counted counted';
+    value = λ x out out' refusal refusal' marks marks'. of-value x out out' refusal refusal' marks marks' kind kind';
+    gradient = λ x out out' refusal refusal' marks marks'. of-gradient x out out' refusal refusal' marks marks' counted counted';
     batch = λ queries out out' refusal refusal'. of-batch queries out out' refusal refusal' kind;
     columns = λ queries out out' refusal refusal'. of-columns queries out out' refusal refusal' counted;
   }
 
 -- of one table that holds its edges, where the kind supplies the rows of a query past an end
 module _ (f : Format) (premises : Type 0) (s : Gathered) (kind : Supplied f premises (s .grid)) (rows : (query : ℕ → Float) → Typed f query → IsAccepted (s .grid) → premises → (is : List ℕ) → AtClamped 0 (s .grid .axes) is query → AtEach 0 (s .grid .axes) is query) where
-  held-value : (x out : List Float) (refusal : List ℕ) → Fits f x → HeldEdge premises (lentToQuery s (length x) (length refusal) (length out) 1) (at (queryFrom x)) (answerRead (interpOneLeaves f s x refusal out))
-  held-value x out refusal fit index h =
-      let one = lentToQuery s (length x) (length refusal) (length out) 1 in
-      let supplied = supplied-to-query s (length x) (length refusal) (length out) 1 kind in
-      let r = held-edge f premises one supplied (λ query typed e. rows query typed (accepted-query s (length x) (length refusal) (length out) 1 e)) (at (queryFrom x)) (query-typed f x fit) (valueAnswer f one (at (queryFrom x))) refl index h in
-      (r .0, value-read f s x refusal out (r .0) (h .0) (r .1), r .2)
+  held-value : (x out : List Float) (refusal marks : List ℕ) → Fits f x → HeldEdge premises (lentToQuery s (length x) (length refusal) (length out) 1 (length marks)) (at (queryFrom x)) (answerRead (interpOneLeaves f s x refusal out marks))
+  held-value x out refusal marks fit index h =
+      let one = lentToQuery s (length x) (length refusal) (length out) 1 (length marks) in
+      let supplied = supplied-to-query s (length x) (length refusal) (length out) 1 (length marks) kind in
+      let r = held-edge f premises one supplied (λ query typed e. rows query typed (accepted-query s (length x) (length refusal) (length out) 1 (length marks) e)) (at (queryFrom x)) (query-typed f x fit) (valueAnswer f one (at (queryFrom x))) refl index h in
+      (r .0, value-read f s x refusal marks out (r .0) (h .0) (r .1), r .2)
 
   held-batch : (queries out : List Float) (refusal : List ℕ) → Fits f queries
       → HeldInBatch premises (lentTo s (length refusal)) queries (outcomeRead (interpLeaves f s queries refusal out)) out (interpLeaves f s queries refusal out .written)

@@ -14,11 +14,11 @@ use Rattle.multicubic.specs.declared.Answer.the-variants.{Value}
 use Rattle.multicubic.specs.declared.Outcome.{Outcome}
 use Rattle.multicubic.specs.declared.Outcome.the-variants.{Accepted, Refused}
 use Rattle.multicubic.specs.Answers.{numberOf, queryOf, axisOf, answered, answerOutcome}
-use Rattle.grid.specs.Query.{Grid, at, fourOf, outcomeOf, valueAnswer, gradientAnswer}
+use Rattle.grid.specs.Query.{Grid, at, fourOf, outcomeOf, valueAnswer, gradientAnswer, markAnswer}
 use Rattle.guarantees.specs.Statements.{IsAccepted}
 use Rattle.slices.specs.Slices.{queryFrom}
 use Rattle.slices.specs.Lent.{Gathered, lentToQuery}
-use Rattle.told.specs.Told.{over, withValue, withFirst, Leaves, leaves}
+use Rattle.told.specs.Told.{over, withValue, withFirst, Leaves, leaves, leavesMarked}
 use Rattle.capi.specs.Calls.{interpOneLeaves, interpOneGradLeaves}
 use Rattle.capi_guarantees.specs.Statements.{outcomeRead, answerRead}
 use Rattle.capi_guarantees.proofs.Lent.{has-room}
@@ -52,7 +52,7 @@ four-long : {A : Type 0} (o : Outcome) (other : A) (xs : List A) → length (fou
 four-long (Refused k q a) other xs = refl
 four-long Accepted other xs = length-take-le 4 (xs ++ (other ∷ other ∷ other ∷ other ∷ [])) (omega (arith, length-append xs (other ∷ other ∷ other ∷ other ∷ [])))
 
-module _ (f : Format) (s : Gathered) (x : List Float) (refusal : List ℕ) (out : List Float) where
+module _ (f : Format) (s : Gathered) (x : List Float) (refusal marks : List ℕ) (out : List Float) where
   abbrev query : ℕ → Float
   query = at (queryFrom x)
 
@@ -60,33 +60,33 @@ module _ (f : Format) (s : Gathered) (x : List Float) (refusal : List ℕ) (out 
   n = s .grid .axis-count
 
   abbrev one : Grid
-  one = lentToQuery s (length x) (length refusal) (length out) 1
+  one = lentToQuery s (length x) (length refusal) (length out) 1 (length marks)
 
   abbrev each : Grid
-  each = lentToQuery s (length x) (length refusal) (length out) n
+  each = lentToQuery s (length x) (length refusal) (length out) n (length marks)
 
-  pub value-read : (v : Float) → IsAccepted one → valueAnswer f one query ≡ Value v → answerRead (interpOneLeaves f s x refusal out) ≡ Value v
+  pub value-read : (v : Float) → IsAccepted one → valueAnswer f one query ≡ Value v → answerRead (interpOneLeaves f s x refusal out marks) ≡ Value v
   unfolding interpOneLeaves
   value-read v taken e =
-      let room = has-room s (length x) (length refusal) (length out) 1 taken in
-      let entry : answerRead (leaves Accepted refusal (set out 0 v)) ≡ Value v = ap Value (getD-set-same out 0 v nan (omega arith)) in
-      ap (λ a. answerRead (leaves (answerOutcome a) refusal (withValue a out))) e ∙ entry
+      let room = has-room s (length x) (length refusal) (length out) 1 (length marks) taken in
+      let entry : answerRead (leavesMarked Accepted refusal (set out 0 v) n (markAnswer one query) marks) ≡ Value v = ap Value (getD-set-same out 0 v nan (omega arith)) in
+      ap (λ a. answerRead (leavesMarked (answerOutcome a) refusal (withValue a out) n (markAnswer one query) marks)) e ∙ entry
 
-  pub gradient-read : n ≤ 4 → IsAccepted each → outcomeOf each query ≡ Accepted → (outcomeRead (interpOneGradLeaves f s x refusal out) ≡ Accepted) × (take n (interpOneGradLeaves f s x refusal out .written) ≡ take n (gradientAnswer f each query))
+  pub gradient-read : n ≤ 4 → IsAccepted each → outcomeOf each query ≡ Accepted → (outcomeRead (interpOneGradLeaves f s x refusal out marks) ≡ Accepted) × (take n (interpOneGradLeaves f s x refusal out marks .written .0) ≡ take n (gradientAnswer f each query))
   unfolding interpOneGradLeaves
   gradient-read few taken e =
-      let room = has-room s (length x) (length refusal) (length out) n taken in
+      let room = has-room s (length x) (length refusal) (length out) n (length marks) taken in
       let xs = gradientAnswer f each query in
       let four : length xs ≡ 4 = four-long (outcomeOf each query) _ _ in
-      (ap (λ o. outcomeRead (leaves o refusal (withFirst o n xs out))) e, ap (λ o. take n (withFirst o n xs out)) e ∙ over-first n xs out (omega arith) room)
+      (ap (λ o. outcomeRead (leavesMarked o refusal (withFirst o n xs out) n (markAnswer each query) marks)) e, ap (λ o. take n (withFirst o n xs out)) e ∙ over-first n xs out (omega arith) room)
 
 -- ---- and what is read stands there: the number is 0, and the value is entry 0
-pub accepted-there : (left : Leaves (List Float)) → outcomeRead left ≡ Accepted → left .number ≡ 0
+pub accepted-there : {W : Type 0} (left : Leaves W) → outcomeRead left ≡ Accepted → left .number ≡ 0
 accepted-there left e = sym (number-kept (left .number) _ _) ∙ ap numberOf e
 
-pub value-there : (left : Leaves (List Float)) (v : Float) → answerRead left ≡ Value v → (left .number ≡ 0) × (getD (left .written) 0 nan ≡ v)
+pub value-there : (left : Leaves (List Float × List ℕ)) (v : Float) → answerRead left ≡ Value v → (left .number ≡ 0) × (getD (left .written .0) 0 nan ≡ v)
 value-there left v = go (outcomeRead left) refl
   where
-    go : (o : Outcome) → outcomeRead left ≡ o → answered o (getD (left .written) 0 nan) ≡ Value v → (left .number ≡ 0) × (getD (left .written) 0 nan ≡ v)
+    go : (o : Outcome) → outcomeRead left ≡ o → answered o (getD (left .written .0) 0 nan) ≡ Value v → (left .number ≡ 0) × (getD (left .written .0) 0 nan ≡ v)
     go Accepted e r = (accepted-there left e, cc)
     go (Refused k q a) e r = let z : _≡_ {A = ℕ} 0 1 = cc in absurd (omega arith)

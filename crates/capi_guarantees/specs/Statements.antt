@@ -23,21 +23,21 @@ use Rattle.capi.specs.Calls.{interpOneLeaves, interpOneGradLeaves, interpLeaves
 abbrev pub outcomeRead : {W : Type 0} → Leaves W → Outcome
 outcomeRead left = cond (eqb (left .number) 0) Accepted (Refused (left .number) (getD (left .refusal) 0 0) (getD (left .refusal) 1 0))
 
--- the value is entry 0 of what is written
-abbrev pub answerRead : Leaves (List Float) → Answer
-answerRead left = answered (outcomeRead left) (getD (left .written) 0 nan)
+-- the value is entry 0 of what is written; the marks stand beside it
+abbrev pub answerRead : Leaves (List Float × List ℕ) → Answer
+answerRead left = answered (outcomeRead left) (getD (left .written .0) 0 nan)
 
 -- ---- what is owed of a call on two tables, from the grids as they are lent to it and what it leaves on each
 -- `interp_one`
-pub record OfValue (premises : Type 0) (g g' : Grid) (query : ℕ → Float) (left left' : Leaves (List Float)) : Type 0 where
+pub record OfValue (premises : Type 0) (g g' : Grid) (query : ℕ → Float) (left left' : Leaves (List Float × List ℕ)) : Type 0 where
   pub node : NodeRule premises g query (answerRead left)
   pub corollary : NodeCorollary premises g g' query (answerRead left) (answerRead left')
   pub block : BlockRule g g' query (answerRead left) (answerRead left')
 
 -- `interp_one_grad`: the gradient is the first entries of what is written, one for each axis
-abbrev pub OfGradient : Grid → Grid → (ℕ → Float) → Leaves (List Float) → Leaves (List Float) → Type 0
+abbrev pub OfGradient : Grid → Grid → (ℕ → Float) → Leaves (List Float × List ℕ) → Leaves (List Float × List ℕ) → Type 0
 OfGradient g g' query left left' =
-    BlockGradient g g' query (outcomeRead left) (outcomeRead left') (take (g .axis-count) (left .written)) (take (g' .axis-count) (left' .written))
+    BlockGradient g g' query (outcomeRead left) (outcomeRead left') (take (g .axis-count) (left .written .0)) (take (g' .axis-count) (left' .written .0))
 
 -- `interp`
 pub record OfBatch (f : Format) (premises : Type 0) (g g' : Grid) (queries out out' : List Float) (left left' : Leaves (List Float)) : Type 0 where
@@ -48,17 +48,17 @@ pub record OfBatch (f : Format) (premises : Type 0) (g g' : Grid) (queries out o
 abbrev pub OfColumns : Format → Grid → Grid → List Float → List Float → List Float → Leaves (List Float) → Leaves (List Float) → Type 0
 OfColumns f g g' queries out out' left left' = BlockInColumns f g g' queries out (left .written) out' (left' .written)
 
--- ---- the calls, with any slices of the format's floats; each table's call has its own `refusal` and its own slice to write
+-- ---- the calls, with any slices of the format's floats; each table's call has its own `refusal` and its own slices to write
 pub record Owed (f : Format) (premises : Type 0) (s s' : Gathered) : Type 0 where
-  pub value : (x value value' : List Float) (refusal refusal' : List ℕ) → Fits f x
+  pub value : (x value value' : List Float) (refusal refusal' marks marks' : List ℕ) → Fits f x
       → OfValue premises
-      (lentToQuery s (length x) (length refusal) (length value) 1) (lentToQuery s' (length x) (length refusal') (length value') 1)
-      (at (queryFrom x)) (interpOneLeaves f s x refusal value) (interpOneLeaves f s' x refusal' value')
-  pub gradient : (x gradient gradient' : List Float) (refusal refusal' : List ℕ)
+      (lentToQuery s (length x) (length refusal) (length value) 1 (length marks)) (lentToQuery s' (length x) (length refusal') (length value') 1 (length marks'))
+      (at (queryFrom x)) (interpOneLeaves f s x refusal value marks) (interpOneLeaves f s' x refusal' value' marks')
+  pub gradient : (x gradient gradient' : List Float) (refusal refusal' marks marks' : List ℕ)
       → OfGradient
-      (lentToQuery s (length x) (length refusal) (length gradient) (s .grid .axis-count))
-      (lentToQuery s' (length x) (length refusal') (length gradient') (s' .grid .axis-count))
-      (at (queryFrom x)) (interpOneGradLeaves f s x refusal gradient) (interpOneGradLeaves f s' x refusal' gradient')
+      (lentToQuery s (length x) (length refusal) (length gradient) (s .grid .axis-count) (length marks))
+      (lentToQuery s' (length x) (length refusal') (length gradient') (s' .grid .axis-count) (length marks'))
+      (at (queryFrom x)) (interpOneGradLeaves f s x refusal gradient marks) (interpOneGradLeaves f s' x refusal' gradient' marks')
   pub batch : (queries out out' : List Float) (refusal refusal' : List ℕ) → Fits f queries
       → OfBatch f premises (lentTo s (length refusal)) (lentTo s' (length refusal'))
       queries out out' (interpLeaves f s queries refusal out) (interpLeaves f s' queries refusal' out')
@@ -68,7 +68,8 @@ pub record Owed (f : Format) (premises : Type 0) (s s' : Gathered) : Type 0 wher
 
 -- ---- `interp_one` and `interp` on a table that holds its edges
 pub record OwedHeld (f : Format) (premises : Type 0) (s : Gathered) : Type 0 where
-  pub value : (x value : List Float) (refusal : List ℕ) → Fits f x
-      → HeldEdge premises (lentToQuery s (length x) (length refusal) (length value) 1) (at (queryFrom x)) (answerRead (interpOneLeaves f s x refusal value))
+  pub value : (x value : List Float) (refusal marks : List ℕ) → Fits f x
+      → HeldEdge premises (lentToQuery s (length x) (length refusal) (length value) 1 (length marks)) (at (queryFrom x))
+      (answerRead (interpOneLeaves f s x refusal value marks))
   pub batch : (queries out : List Float) (refusal : List ℕ) → Fits f queries
       → HeldInBatch premises (lentTo s (length refusal)) queries (outcomeRead (interpLeaves f s queries refusal out)) out (interpLeaves f s queries refusal out .written)

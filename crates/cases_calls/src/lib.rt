@@ -4,6 +4,7 @@ ghost use lib.ListN.{length};
 use harness_batches::Walk;
 use harness_batches::marked_words;
 use harness_batches::run_batches;
+use harness_calls::INTERP_ONE;
 use harness_calls::NEW;
 use harness_calls::call_new;
 use harness_calls::same_outcome;
@@ -15,11 +16,14 @@ use harness_corpus::part;
 use harness_corpus::refusal;
 use harness_report::say;
 use harness_report::say_difference_in;
+use harness_words::MARK;
 use harness_words::Tally;
 use harness_words::clear;
-use multicubic::Answer;
+use harness_words::same;
 use multicubic::Axis;
 use multicubic::EdgeMode;
+use multicubic::MarkedAnswer;
+use multicubic::Marks;
 
 // How many cases there were, and how many of them agree.
 pub struct Score {
@@ -225,8 +229,30 @@ pub fn not_placed(s: Score, g: Group, axes: &[f64], vals: &[f64], x: f64, name: 
     told(s, t, name)
 }
 
+// 0 neither, 1 below, 2 above, 3 both.
+fn mark_of(marks: Marks) -> u64 {
+    if marks.below {
+        if marks.above {
+            return 3;
+        }
+        return 1;
+    }
+    if marks.above {
+        return 2;
+    }
+    0
+}
+
+// The marks of a single answer, past the axis count too.
+pub fn same_marks(t: Tally, call: u64, expected: [u64; 4], marks: [Marks; 4]) -> Tally {
+    let t = same(t, call, MARK, 0, expected[0], mark_of(marks[0]));
+    let t = same(t, call, MARK, 1, expected[1], mark_of(marks[1]));
+    let t = same(t, call, MARK, 2, expected[2], mark_of(marks[2]));
+    same(t, call, MARK, 3, expected[3], mark_of(marks[3]))
+}
+
 // The value on a grid that is made as a struct and asked.
-fn ask(g: Group, axes: &[f64], vals: &[f64], x: [f64; 4]) -> Answer {
+fn ask(g: Group, axes: &[f64], vals: &[f64], x: [f64; 4]) -> MarkedAnswer {
     let n = g.n;
     let mode = g.mode;
     if g.rectilinear {
@@ -237,7 +263,7 @@ fn ask(g: Group, axes: &[f64], vals: &[f64], x: [f64; 4]) -> Answer {
     grids::ask_regular(n, regular_axes, vals, mode, x)
 }
 
-// A kept grid is asked at x on one axis: it answers the value where the number is 0, else it refuses by that number, at axis 0.
+// A kept grid is asked at x on one axis: it answers the value and the mark where the number is 0, else it refuses by that number, at axis 0.
 pub fn kept(
     s: Score,
     g: Group,
@@ -246,12 +272,16 @@ pub fn kept(
     x: f64,
     number: u64,
     value: u64,
+    mark: u64,
     name: &[u8],
 ) -> Score {
     let mut e = refusal(number, 0);
     e.value = value;
-    let answer = ask(g, axes, vals, [x, 0.0, 0.0, 0.0]);
-    told(s, same_value(clear(), e, answer), name)
+    let asked = ask(g, axes, vals, [x, 0.0, 0.0, 0.0]);
+    let answer = asked.answer;
+    let marks = asked.marks;
+    let t = same_value(clear(), e, answer);
+    told(s, same_marks(t, INTERP_ONE, [mark, 0, 0, 0], marks), name)
 }
 
 pub fn zeros() -> [f64; 8192]

@@ -4,10 +4,12 @@ ghost use mathlib.Core.Path.{_≡_};
 ghost use lib.ListN.{length};
 use cases_calls::Score;
 use cases_calls::answer_of;
+use cases_calls::same_marks;
 use cases_calls::told;
 use cases_calls::walk;
 use harness_batches_f32::marked_words;
 use harness_batches_f32::run_batches;
+use harness_calls::INTERP_ONE;
 use harness_calls::NEW;
 use harness_calls::same_outcome;
 use harness_calls_f32::call_new;
@@ -18,9 +20,10 @@ use harness_corpus_f32::GroupF32;
 use harness_corpus_f32::part;
 use harness_words::Tally;
 use harness_words::clear;
+use harness_words::same;
 use multicubic::EdgeMode;
-use multicubic_f32::AnswerF32;
 use multicubic_f32::AxisF32;
+use multicubic_f32::MarkedAnswerF32;
 
 fn axis(step: f32, count: usize) -> AxisF32 {
     AxisF32 {
@@ -186,7 +189,7 @@ pub fn not_placed(s: Score, g: GroupF32, axes: &[f32], vals: &[f32], x: f32, nam
 }
 
 // The value on a grid that is made as a struct and asked.
-fn ask(g: GroupF32, axes: &[f32], vals: &[f32], x: [f32; 4]) -> AnswerF32 {
+fn ask(g: GroupF32, axes: &[f32], vals: &[f32], x: [f32; 4]) -> MarkedAnswerF32 {
     let n = g.n;
     let mode = g.mode;
     if g.rectilinear {
@@ -197,7 +200,7 @@ fn ask(g: GroupF32, axes: &[f32], vals: &[f32], x: [f32; 4]) -> AnswerF32 {
     grids_f32::ask_regular(n, regular_axes, vals, mode, x)
 }
 
-// A kept grid is asked at x on one axis: it answers the value where the number is 0, else it refuses by that number, at axis 0.
+// A kept grid is asked at x on one axis: it answers the value and the mark where the number is 0, else it refuses by that number, at axis 0.
 pub fn kept(
     s: Score,
     g: GroupF32,
@@ -206,12 +209,16 @@ pub fn kept(
     x: f32,
     number: u64,
     value: u64,
+    mark: u64,
     name: &[u8],
 ) -> Score {
     let mut e = refusal(number, 0);
     e.value = value;
-    let answer = ask(g, axes, vals, [x, 0.0, 0.0, 0.0]);
-    told(s, same_value(clear(), e, answer), name)
+    let asked = ask(g, axes, vals, [x, 0.0, 0.0, 0.0]);
+    let answer = asked.answer;
+    let marks = asked.marks;
+    let t = same_value(clear(), e, answer);
+    told(s, same_marks(t, INTERP_ONE, [mark, 0, 0, 0], marks), name)
 }
 
 pub fn zeros() -> [f32; 8192]

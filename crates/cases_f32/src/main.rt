@@ -18,6 +18,7 @@ use cases_calls_f32::regular_from;
 use cases_calls_f32::taken;
 use cases_calls_f32::with_buffers;
 use cases_calls_f32::zeros;
+use cases_marks_f32::marked_cases;
 use cases_refusals_f32::refusals;
 use harness_batches_f32::marked_words;
 use harness_batches_f32::run_batches;
@@ -569,8 +570,8 @@ fn held_edge(s: Score) -> Score {
     held_axes(s)
 }
 
-// A grid that a caller keeps: the value at 1.5, that of the last node past it, and the refusals of one whose count or axis count was altered by
-// hand.
+// A grid that a caller keeps: the value at 1.5, that of the last node past it, marked, and the refusals of one whose count or axis count was altered
+// by hand, which have no mark.
 fn kept_on(
     s: Score,
     g: GroupF32,
@@ -583,10 +584,20 @@ fn kept_on(
 ) -> Score {
     let x = [0.0, 1.0, 2.0, 3.0];
     let v = [0.0, 1.0, 8.0, 27.0];
-    let s = kept(s, g, &x, &v, 1.5, 0, 0x4058_0000, at_1_5);
-    let s = kept(s, held(g), &x, &v, 9.0, 0, 0x41D8_0000, held_at_9);
-    let s = kept(s, short, part(&x, 0, 3), part(&v, 0, 3), 1.5, 4, 0, count);
-    kept(s, wide, &x, &v, 1.5, 1, 0, axes)
+    let s = kept(s, g, &x, &v, 1.5, 0, 0x4058_0000, 0, at_1_5);
+    let s = kept(s, held(g), &x, &v, 9.0, 0, 0x41D8_0000, 2, held_at_9);
+    let s = kept(
+        s,
+        short,
+        part(&x, 0, 3),
+        part(&v, 0, 3),
+        9.0,
+        4,
+        0,
+        0,
+        count,
+    );
+    kept(s, wide, &x, &v, 9.0, 1, 0, 0, axes)
 }
 
 fn kept_grids(s: Score) -> Score {
@@ -624,7 +635,8 @@ fn all(s: Score, z: &[f32]) -> Score {
     let s = bounds(s);
     let s = stopped(s, z);
     let s = held_edge(s);
-    kept_grids(s)
+    let s = kept_grids(s);
+    marked_cases(s)
 }
 
 fn main() {

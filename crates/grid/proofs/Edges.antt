@@ -73,19 +73,34 @@ edge-roomy Straight axis r = r true
 edge-roomy Held axis r = λ given p e. r false (hold (axis false) given) p e
 
 -- ---- the query as used
+pub refuted : (b : Bool) → (b ≡ true → ⊥) → b ≡ false
+refuted true h = absurd (h refl)
+refuted false h = refl
+
+not-both : {b : Bool} → b ≡ true → b ≡ false → ⊥
+not-both p q = true-not-false (sym p ∙ q)
+
+-- the last node is not below the first
+abbrev pub EndsInOrder : GridAxis → Type 0
+EndsInOrder g = lt (g .node (g .count - 1)) (g .node 0) ≡ false
+
 module _ (g : GridAxis) (given : Float) where
   -- inside the span it is the query as given; so it is at an end node
   pub hold-inside : below g given ≡ false → above g given ≡ false → hold g given ≡ given
   hold-inside b a = rw (b, a) refl
 
-  hold-below : below g given ≡ true → hold g given ≡ g .node 0
+  pub hold-below : below g given ≡ true → hold g given ≡ g .node 0
   hold-below b = rw b refl
 
-  hold-above : below g given ≡ false → above g given ≡ true → hold g given ≡ g .node (g .count - 1)
+  pub hold-above : below g given ≡ false → above g given ≡ true → hold g given ≡ g .node (g .count - 1)
   hold-above b a = rw (b, a) refl
 
--- held twice it is held once, where the last node is not below the first
-pub hold-twice : (g : GridAxis) → lt (g .node (g .count - 1)) (g .node 0) ≡ false → (given : Float) → hold g (hold g given) ≡ hold g given
+  -- past one end alone
+  pub one-end : EndsInOrder g → above g given ≡ true → below g given ≡ false
+  one-end rises a = refuted (below g given) (λ e. not-both (lt-trans (g .node (g .count - 1)) given (g .node 0) a e) rises)
+
+-- held twice it is held once
+pub hold-twice : (g : GridAxis) → EndsInOrder g → (given : Float) → hold g (hold g given) ≡ hold g given
 hold-twice g rises given = go (below g given) (above g given) refl refl
   where
     settled : (x : Float) → hold g given ≡ x → hold g x ≡ x → hold g (hold g given) ≡ hold g given
@@ -96,6 +111,15 @@ hold-twice g rises given = go (below g given) (above g given) refl refl
     go false true e d = settled (g .node (g .count - 1)) (hold-above g given e d) (hold-inside g (g .node (g .count - 1)) rises (lt-irrefl (g .node (g .count - 1))))
     go false false e d = ap (hold g) (hold-inside g given e d)
 
+pub holds-once : (gs : List GridAxis) → All EndsInOrder gs → All (λ (g : GridAxis). (given : Float) → hold g (hold g given) ≡ hold g given) gs
+holds-once [] ok = tt
+holds-once (g ∷ gs) ok = (hold-twice g (ok .0), holds-once gs (ok .1))
+
+pub edge-ends : (mode : EdgeMode) (axis : Bool → GridAxis) → ((straight : Bool) → EndsInOrder (axis straight)) → EndsInOrder (edgeAxis mode axis)
+edge-ends Cubic axis ok = ok false
+edge-ends Straight axis ok = ok true
+edge-ends Held axis ok = ok false
+
 -- ---- clause 8.6: the nodes are numbers of the format, and in order
 pub record InOrder (f : Format) (g : GridAxis) : Type 0 where
   pub some : 0 < g .count
@@ -103,12 +127,20 @@ pub record InOrder (f : Format) (g : GridAxis) : Type 0 where
   pub whole : (i : ℕ) → i < g .count → T (finite (g .node i))
   pub rising : (i j : ℕ) → i ≤ j → j < g .count → lt (g .node j) (g .node i) ≡ false
 
--- so holding twice is holding once, on every axis
-pub holds-once : (f : Format) (gs : List GridAxis) → All (InOrder f) gs → All (λ (g : GridAxis). (given : Float) → hold g (hold g given) ≡ hold g given) gs
-holds-once f [] ok = tt
-holds-once f (g ∷ gs) ok =
-    let some = ok .0 .some in
-    (hold-twice g (ok .0 .rising 0 (g .count - 1) (omega arith) (omega arith)), holds-once f gs (ok .1))
+-- a query at a node, an end node too, is past no end
+pub node-within : (f : Format) (g : GridAxis) → InOrder f g → (i : ℕ) → i < g .count → (given : Float) → T (eq given (g .node i)) → (below g given ≡ false) × (above g given ≡ false)
+node-within f g ok i here given at =
+    let same = is-true (eq given (g .node i)) at in
+    let last : g .count - 1 < g .count = let s = ok .some in omega arith in (
+      refuted (below g given) (λ e. not-both (eq-lt-left given (g .node i) (g .node 0) same e) (ok .rising 0 i (omega arith) here)),
+      refuted (above g given) (λ e. not-both (eq-lt-right given (g .node i) (g .node (g .count - 1)) same e) (ok .rising i (g .count - 1) (omega arith) last)),
+    )
+
+-- the nodes of an axis are in order in every setting
+pub edge-order : (f : Format) (mode : EdgeMode) (axis : Bool → GridAxis) → ((straight : Bool) → InOrder f (axis straight)) → InOrder f (edgeAxis mode axis)
+edge-order f Cubic axis ok = ok false
+edge-order f Straight axis ok = ok true
+edge-order f Held axis ok = record { some = ok false .some; fit = ok false .fit; whole = ok false .whole; rising = ok false .rising }
 
 -- other derivative weights at the same place
 weighed : (w d d' : Place → List Float) (l : Loc) (q : Placed) → outcomeAt w d l ≡ placed q → outcomeAt w d' l ≡ placed (record { place = q .place; weights = q .weights; derivatives = d' (q .place) })
@@ -129,13 +161,6 @@ held-at g given x n l i e at =
     }
 
 module _ (f : Format) (g : GridAxis) (law : NodeLaw f g) (ok : InOrder f g) where
-  not-both : {b : Bool} → b ≡ true → b ≡ false → ⊥
-  not-both p q = true-not-false (sym p ∙ q)
-
-  refuted : (b : Bool) → (b ≡ true → ⊥) → b ≡ false
-  refuted true h = absurd (h refl)
-  refuted false h = refl
-
   last : g .count - 1 < g .count
   last = let s = ok .some in omega arith
 
@@ -149,17 +174,14 @@ module _ (f : Format) (g : GridAxis) (law : NodeLaw f g) (ok : InOrder f g) wher
       (n .0, held-at g given (g .node 0) (g .count) (n .0) 0 (hold-below g given (is-true (below g given) (low .0))) (n .1))
   clamped-node i given typed (inr (inl high)) =
       let a = is-true (above g given) (high .0) in
-      let b = refuted (below g given) (λ e. not-both (lt-trans (g .node (g .count - 1)) given (g .node 0) a e) (ok .rising 0 (g .count - 1) (omega arith) last)) in
+      let b = one-end g given (ok .rising 0 (g .count - 1) (omega arith) last) a in
       let n = at-itself (g .count - 1) last in
       subst (λ (k : ℕ). (l : ℤ) × AtNode (g .count) l k (outcome (heldAxis g) given)) (sym (high .1))
       (n .0, held-at g given (g .node (g .count - 1)) (g .count) (n .0) (g .count - 1) (hold-above g given b a) (n .1))
   clamped-node i given typed (inr (inr at)) =
-      let here = at .0 in
-      let same = is-true (eq given (g .node i)) (at .1) in
-      let b = refuted (below g given) (λ e. not-both (eq-lt-left given (g .node i) (g .node 0) same e) (ok .rising 0 i (omega arith) here)) in
-      let a = refuted (above g given) (λ e. not-both (eq-lt-right given (g .node i) (g .node (g .count - 1)) same e) (ok .rising i (g .count - 1) (omega arith) last)) in
-      let n = law i here given typed (at .1) in
-      (n .0, held-at g given given (g .count) (n .0) i (hold-inside g given b a) (n .1))
+      let n = law i (at .0) given typed (at .1) in
+      let within = node-within f g ok i (at .0) given (at .1) in
+      (n .0, held-at g given given (g .count) (n .0) i (hold-inside g given (within .0) (within .1)) (n .1))
 
   pub held-law : NodeLaw f (heldAxis g)
   held-law i here given typed at = clamped-node i given typed (inr (inr (here, at)))

@@ -11,10 +11,11 @@ use Rattle.multicubic.specs.declared.Answer.{Answer}
 use Rattle.multicubic.specs.declared.EdgeMode.{EdgeMode}
 use Rattle.multicubic.specs.declared.EdgeMode.the-variants.{Cubic, Straight, Held}
 use Rattle.multicubic.specs.Answers.{carried, answered}
+use Rattle.multicubic.specs.declared.Marks.{Marks}
 use Rattle.multicubic.specs.declared.Place.{Place}
 use Rattle.multicubic.specs.declared.Loc.{Loc}
 use Rattle.multicubic.specs.Grid.{_then_}
-use Rattle.multicubic.specs.Place.{nowhere, Placed, AxisOutcome, unplaceable, placed, outcomeAt}
+use Rattle.multicubic.specs.Place.{nowhere, unmarked, Placed, AxisOutcome, unplaceable, placed, outcomeAt}
 use Rattle.reduction.specs.Value.{stridesOf, block, reduceOf}
 use Rattle.reduction.specs.Gradient.{componentOf}
 
@@ -161,3 +162,18 @@ fourPlaces outcome found = fourOf outcome nowhere (cases found (λ axis. []) pla
 
 abbrev pub placeAnswer : Grid → (ℕ → Float) → List Place
 placeAnswer g query = fourPlaces (outcomeOf g query) (find 0 (g .axes) query)
+
+-- ---- Clause 3.8: past which ends of each axis the query as given lies. The setting has no say in it.
+abbrev pub marksAt : GridAxis → Float → Marks
+marksAt g given = record { below = below g given; above = above g given }
+
+abbrev pub marksFrom : ℕ → List GridAxis → (ℕ → Float) → List Marks
+marksFrom axis [] query = []
+marksFrom axis (g ∷ gs) query = marksAt g (query axis) ∷ marksFrom (suc axis) gs query
+
+-- beside an outcome: neither mark past the axis count, and none at all on refusal
+abbrev pub marksBeside : Outcome → List GridAxis → (ℕ → Float) → List Marks
+marksBeside outcome gs query = fourOf outcome unmarked (marksFrom 0 gs query)
+
+abbrev pub markAnswer : Grid → (ℕ → Float) → List Marks
+markAnswer g query = marksBeside (outcomeOf g query) (g .axes) query

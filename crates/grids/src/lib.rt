@@ -5,17 +5,17 @@ ghost use lib.ListN.{length};
 ghost use lib.Ieee.{binary64};
 ghost use Rattle.multicubic.specs.Answers.{Says, answerOutcome, valueIn};
 ghost use Rattle.multicubic.specs.Same.{asAnswer};
-ghost use Rattle.grid.specs.Query.{outcomeOf, at, placeAnswer, valueAnswer, valueCarried, gradientAnswer};
+ghost use Rattle.grid.specs.Query.{outcomeOf, at, placeAnswer, valueAnswer, valueCarried, gradientAnswer, markAnswer};
 ghost use Rattle.grid.specs.Batch.{interpOutcome, interpBuffer, gradOutcome, gradBuffer};
 ghost use Rattle.regular_query.specs.Grid.{checksOf as regularChecks, gridOf as regularOf};
 ghost use Rattle.rectilinear_query.specs.Grid.{checksOf as rectilinearChecks, gridOf as rectilinearOf};
 ghost use Rattle.grids.specs.Kept.{keptRegular, keptRectilinear};
-use multicubic::Answer;
 use multicubic::Axis;
 use multicubic::EdgeMode;
-use multicubic::GradientAnswer;
+use multicubic::MarkedAnswer;
+use multicubic::MarkedGradient;
+use multicubic::MarkedPlaces;
 use multicubic::Outcome;
-use multicubic::PlaceAnswer;
 
 // A regular grid.
 pub struct MulticubicRegular<'a> {
@@ -60,28 +60,31 @@ pub fn regular_new<'a>(g: MulticubicRegular<'a>) -> Outcome
 }
 
 // The place of a query on the grid, in its mode.
-pub fn regular_get_loc<'a>(g: MulticubicRegular<'a>, x: [f64; 4]) -> PlaceAnswer
-    ensures { λ r. ⌜ r .outcome ≡ outcomeOf (keptRegular binary64 (g .entry)) (at x) ⌝ }
-    ensures { λ r. ⌜ r .places ≡ placeAnswer (keptRegular binary64 (g .entry)) (at x) ⌝ }
-    ensures { λ r. ⌜ Says (r .outcome) (outcomeOf (keptRegular binary64 (g .entry)) (at x)) ⌝ }
+pub fn regular_get_loc<'a>(g: MulticubicRegular<'a>, x: [f64; 4]) -> MarkedPlaces
+    ensures { λ r. ⌜ r .answer .outcome ≡ outcomeOf (keptRegular binary64 (g .entry)) (at x) ⌝ }
+    ensures { λ r. ⌜ r .answer .places ≡ placeAnswer (keptRegular binary64 (g .entry)) (at x) ⌝ }
+    ensures { λ r. ⌜ r .marks ≡ markAnswer (keptRegular binary64 (g .entry)) (at x) ⌝ }
+    ensures { λ r. ⌜ Says (r .answer .outcome) (outcomeOf (keptRegular binary64 (g .entry)) (at x)) ⌝ }
 {
     regular::get_loc(g.axis_count, g.axes, g.vals, g.mode, x)
 }
 
 // The value at a query, or the refusal.
-pub fn regular_interp_one<'a>(g: MulticubicRegular<'a>, x: [f64; 4]) -> Answer
-    ensures { λ r. ⌜ asAnswer r ≡ valueAnswer binary64 (keptRegular binary64 (g .entry)) (at x) ⌝ }
-    ensures { λ r. ⌜ Says (answerOutcome (asAnswer r)) (outcomeOf (keptRegular binary64 (g .entry)) (at x)) ⌝ }
-    ensures { λ r. ⌜ valueIn (asAnswer r) ≡ valueCarried binary64 (keptRegular binary64 (g .entry)) (at x) ⌝ }
+pub fn regular_interp_one<'a>(g: MulticubicRegular<'a>, x: [f64; 4]) -> MarkedAnswer
+    ensures { λ r. ⌜ asAnswer (r .answer) ≡ valueAnswer binary64 (keptRegular binary64 (g .entry)) (at x) ⌝ }
+    ensures { λ r. ⌜ r .marks ≡ markAnswer (keptRegular binary64 (g .entry)) (at x) ⌝ }
+    ensures { λ r. ⌜ Says (answerOutcome (asAnswer (r .answer))) (outcomeOf (keptRegular binary64 (g .entry)) (at x)) ⌝ }
+    ensures { λ r. ⌜ valueIn (asAnswer (r .answer)) ≡ valueCarried binary64 (keptRegular binary64 (g .entry)) (at x) ⌝ }
 {
     regular::interp_one(g.axis_count, g.axes, g.vals, g.mode, x)
 }
 
 // The gradient at a query, or the refusal.
-pub fn regular_interp_one_grad<'a>(g: MulticubicRegular<'a>, x: [f64; 4]) -> GradientAnswer
-    ensures { λ r. ⌜ r .outcome ≡ outcomeOf (keptRegular binary64 (g .entry)) (at x) ⌝ }
-    ensures { λ r. ⌜ r .gradient ≡ gradientAnswer binary64 (keptRegular binary64 (g .entry)) (at x) ⌝ }
-    ensures { λ r. ⌜ Says (r .outcome) (outcomeOf (keptRegular binary64 (g .entry)) (at x)) ⌝ }
+pub fn regular_interp_one_grad<'a>(g: MulticubicRegular<'a>, x: [f64; 4]) -> MarkedGradient
+    ensures { λ r. ⌜ r .answer .outcome ≡ outcomeOf (keptRegular binary64 (g .entry)) (at x) ⌝ }
+    ensures { λ r. ⌜ r .answer .gradient ≡ gradientAnswer binary64 (keptRegular binary64 (g .entry)) (at x) ⌝ }
+    ensures { λ r. ⌜ r .marks ≡ markAnswer (keptRegular binary64 (g .entry)) (at x) ⌝ }
+    ensures { λ r. ⌜ Says (r .answer .outcome) (outcomeOf (keptRegular binary64 (g .entry)) (at x)) ⌝ }
 {
     regular::interp_one_grad(g.axis_count, g.axes, g.vals, g.mode, x)
 }
@@ -119,10 +122,11 @@ pub fn ask_regular(
     vals: &[f64],
     mode: EdgeMode,
     x: [f64; 4],
-) -> Answer
-    ensures { λ r. ⌜ asAnswer r ≡ valueAnswer binary64 (regularOf binary64 «axis_count» axes (now (vals .entry)) mode) (at x) ⌝ }
-    ensures { λ r. ⌜ Says (answerOutcome (asAnswer r)) (outcomeOf (regularOf binary64 «axis_count» axes (now (vals .entry)) mode) (at x)) ⌝ }
-    ensures { λ r. ⌜ valueIn (asAnswer r) ≡ valueCarried binary64 (regularOf binary64 «axis_count» axes (now (vals .entry)) mode) (at x) ⌝ }
+) -> MarkedAnswer
+    ensures { λ r. ⌜ asAnswer (r .answer) ≡ valueAnswer binary64 (regularOf binary64 «axis_count» axes (now (vals .entry)) mode) (at x) ⌝ }
+    ensures { λ r. ⌜ r .marks ≡ markAnswer (regularOf binary64 «axis_count» axes (now (vals .entry)) mode) (at x) ⌝ }
+    ensures { λ r. ⌜ Says (answerOutcome (asAnswer (r .answer))) (outcomeOf (regularOf binary64 «axis_count» axes (now (vals .entry)) mode) (at x)) ⌝ }
+    ensures { λ r. ⌜ valueIn (asAnswer (r .answer)) ≡ valueCarried binary64 (regularOf binary64 «axis_count» axes (now (vals .entry)) mode) (at x) ⌝ }
 {
     regular_interp_one(keep_regular(axis_count, axes, vals, mode), x)
 }
@@ -155,19 +159,21 @@ pub fn rectilinear_new<'a, 'b>(g: MulticubicRectilinear<'a, 'b>) -> Outcome
 }
 
 // The place of a query on the grid, in its mode.
-pub fn rectilinear_get_loc<'a, 'b>(g: MulticubicRectilinear<'a, 'b>, x: [f64; 4]) -> PlaceAnswer
-    ensures { λ r. ⌜ r .outcome ≡ outcomeOf (keptRectilinear binary64 (g .entry)) (at x) ⌝ }
-    ensures { λ r. ⌜ r .places ≡ placeAnswer (keptRectilinear binary64 (g .entry)) (at x) ⌝ }
-    ensures { λ r. ⌜ Says (r .outcome) (outcomeOf (keptRectilinear binary64 (g .entry)) (at x)) ⌝ }
+pub fn rectilinear_get_loc<'a, 'b>(g: MulticubicRectilinear<'a, 'b>, x: [f64; 4]) -> MarkedPlaces
+    ensures { λ r. ⌜ r .answer .outcome ≡ outcomeOf (keptRectilinear binary64 (g .entry)) (at x) ⌝ }
+    ensures { λ r. ⌜ r .answer .places ≡ placeAnswer (keptRectilinear binary64 (g .entry)) (at x) ⌝ }
+    ensures { λ r. ⌜ r .marks ≡ markAnswer (keptRectilinear binary64 (g .entry)) (at x) ⌝ }
+    ensures { λ r. ⌜ Says (r .answer .outcome) (outcomeOf (keptRectilinear binary64 (g .entry)) (at x)) ⌝ }
 {
     rectilinear::get_loc(g.axis_count, g.counts, g.axes, g.vals, g.mode, x)
 }
 
 // The value at a query, or the refusal.
-pub fn rectilinear_interp_one<'a, 'b>(g: MulticubicRectilinear<'a, 'b>, x: [f64; 4]) -> Answer
-    ensures { λ r. ⌜ asAnswer r ≡ valueAnswer binary64 (keptRectilinear binary64 (g .entry)) (at x) ⌝ }
-    ensures { λ r. ⌜ Says (answerOutcome (asAnswer r)) (outcomeOf (keptRectilinear binary64 (g .entry)) (at x)) ⌝ }
-    ensures { λ r. ⌜ valueIn (asAnswer r) ≡ valueCarried binary64 (keptRectilinear binary64 (g .entry)) (at x) ⌝ }
+pub fn rectilinear_interp_one<'a, 'b>(g: MulticubicRectilinear<'a, 'b>, x: [f64; 4]) -> MarkedAnswer
+    ensures { λ r. ⌜ asAnswer (r .answer) ≡ valueAnswer binary64 (keptRectilinear binary64 (g .entry)) (at x) ⌝ }
+    ensures { λ r. ⌜ r .marks ≡ markAnswer (keptRectilinear binary64 (g .entry)) (at x) ⌝ }
+    ensures { λ r. ⌜ Says (answerOutcome (asAnswer (r .answer))) (outcomeOf (keptRectilinear binary64 (g .entry)) (at x)) ⌝ }
+    ensures { λ r. ⌜ valueIn (asAnswer (r .answer)) ≡ valueCarried binary64 (keptRectilinear binary64 (g .entry)) (at x) ⌝ }
 {
     rectilinear::interp_one(g.axis_count, g.counts, g.axes, g.vals, g.mode, x)
 }
@@ -176,10 +182,11 @@ pub fn rectilinear_interp_one<'a, 'b>(g: MulticubicRectilinear<'a, 'b>, x: [f64;
 pub fn rectilinear_interp_one_grad<'a, 'b>(
     g: MulticubicRectilinear<'a, 'b>,
     x: [f64; 4],
-) -> GradientAnswer
-    ensures { λ r. ⌜ r .outcome ≡ outcomeOf (keptRectilinear binary64 (g .entry)) (at x) ⌝ }
-    ensures { λ r. ⌜ r .gradient ≡ gradientAnswer binary64 (keptRectilinear binary64 (g .entry)) (at x) ⌝ }
-    ensures { λ r. ⌜ Says (r .outcome) (outcomeOf (keptRectilinear binary64 (g .entry)) (at x)) ⌝ }
+) -> MarkedGradient
+    ensures { λ r. ⌜ r .answer .outcome ≡ outcomeOf (keptRectilinear binary64 (g .entry)) (at x) ⌝ }
+    ensures { λ r. ⌜ r .answer .gradient ≡ gradientAnswer binary64 (keptRectilinear binary64 (g .entry)) (at x) ⌝ }
+    ensures { λ r. ⌜ r .marks ≡ markAnswer (keptRectilinear binary64 (g .entry)) (at x) ⌝ }
+    ensures { λ r. ⌜ Says (r .answer .outcome) (outcomeOf (keptRectilinear binary64 (g .entry)) (at x)) ⌝ }
 {
     rectilinear::interp_one_grad(g.axis_count, g.counts, g.axes, g.vals, g.mode, x)
 }
@@ -218,15 +225,16 @@ pub fn ask_rectilinear(
     vals: &[f64],
     mode: EdgeMode,
     x: [f64; 4],
-) -> Answer
+) -> MarkedAnswer
     ensures { λ r. ⌜
-        asAnswer r ≡ valueAnswer binary64 (rectilinearOf binary64 «axis_count» counts (now (axes .entry)) (now (vals .entry)) mode) (at x)
+        asAnswer (r .answer) ≡ valueAnswer binary64 (rectilinearOf binary64 «axis_count» counts (now (axes .entry)) (now (vals .entry)) mode) (at x)
+        ⌝ }
+    ensures { λ r. ⌜ r .marks ≡ markAnswer (rectilinearOf binary64 «axis_count» counts (now (axes .entry)) (now (vals .entry)) mode) (at x) ⌝ }
+    ensures { λ r. ⌜
+        Says (answerOutcome (asAnswer (r .answer))) (outcomeOf (rectilinearOf binary64 «axis_count» counts (now (axes .entry)) (now (vals .entry)) mode) (at x))
         ⌝ }
     ensures { λ r. ⌜
-        Says (answerOutcome (asAnswer r)) (outcomeOf (rectilinearOf binary64 «axis_count» counts (now (axes .entry)) (now (vals .entry)) mode) (at x))
-        ⌝ }
-    ensures { λ r. ⌜
-        valueIn (asAnswer r) ≡ valueCarried binary64 (rectilinearOf binary64 «axis_count» counts (now (axes .entry)) (now (vals .entry)) mode) (at x)
+        valueIn (asAnswer (r .answer)) ≡ valueCarried binary64 (rectilinearOf binary64 «axis_count» counts (now (axes .entry)) (now (vals .entry)) mode) (at x)
         ⌝ }
 {
     rectilinear_interp_one(keep_rectilinear(axis_count, counts, axes, vals, mode), x)

@@ -5,18 +5,18 @@ ghost use mathlib.Core.Path.{_≡_};
 ghost use lib.ListN.{length};
 ghost use lib.Ieee.{binary32};
 ghost use Rattle.multicubic.specs.Answers.{Says, answerOutcome, valueIn};
-ghost use Rattle.grid.specs.Query.{outcomeOf, at, placeAnswer, valueAnswer, valueCarried, gradientAnswer};
+ghost use Rattle.grid.specs.Query.{outcomeOf, at, placeAnswer, valueAnswer, valueCarried, gradientAnswer, markAnswer};
 ghost use Rattle.grid.specs.Batch.{interpOutcome, interpBuffer, gradOutcome, gradBuffer};
 ghost use Rattle.regular_query.specs.Grid.{checksOf as regularChecks, gridOf as regularOf};
 ghost use Rattle.rectilinear_query.specs.Grid.{checksOf as rectilinearChecks, gridOf as rectilinearOf};
 ghost use Rattle.grids_f32.specs.Kept.{keptRegular, keptRectilinear};
 ghost use Rattle.multicubic_f32.specs.Same.{asAnswer, asAxes};
 use multicubic::EdgeMode;
+use multicubic::MarkedPlaces;
 use multicubic::Outcome;
-use multicubic::PlaceAnswer;
-use multicubic_f32::AnswerF32;
 use multicubic_f32::AxisF32;
-use multicubic_f32::GradientAnswerF32;
+use multicubic_f32::MarkedAnswerF32;
+use multicubic_f32::MarkedGradientF32;
 
 // A regular grid.
 pub struct MulticubicRegularF32<'a> {
@@ -61,28 +61,31 @@ pub fn regular_new<'a>(g: MulticubicRegularF32<'a>) -> Outcome
 }
 
 // The place of a query on the grid, in its mode.
-pub fn regular_get_loc<'a>(g: MulticubicRegularF32<'a>, x: [f32; 4]) -> PlaceAnswer
-    ensures { λ r. ⌜ r .outcome ≡ outcomeOf (keptRegular binary32 (g .entry)) (at x) ⌝ }
-    ensures { λ r. ⌜ r .places ≡ placeAnswer (keptRegular binary32 (g .entry)) (at x) ⌝ }
-    ensures { λ r. ⌜ Says (r .outcome) (outcomeOf (keptRegular binary32 (g .entry)) (at x)) ⌝ }
+pub fn regular_get_loc<'a>(g: MulticubicRegularF32<'a>, x: [f32; 4]) -> MarkedPlaces
+    ensures { λ r. ⌜ r .answer .outcome ≡ outcomeOf (keptRegular binary32 (g .entry)) (at x) ⌝ }
+    ensures { λ r. ⌜ r .answer .places ≡ placeAnswer (keptRegular binary32 (g .entry)) (at x) ⌝ }
+    ensures { λ r. ⌜ r .marks ≡ markAnswer (keptRegular binary32 (g .entry)) (at x) ⌝ }
+    ensures { λ r. ⌜ Says (r .answer .outcome) (outcomeOf (keptRegular binary32 (g .entry)) (at x)) ⌝ }
 {
     regular_f32::get_loc(g.axis_count, g.axes, g.vals, g.mode, x)
 }
 
 // The value at a query, or the refusal.
-pub fn regular_interp_one<'a>(g: MulticubicRegularF32<'a>, x: [f32; 4]) -> AnswerF32
-    ensures { λ r. ⌜ asAnswer r ≡ valueAnswer binary32 (keptRegular binary32 (g .entry)) (at x) ⌝ }
-    ensures { λ r. ⌜ Says (answerOutcome (asAnswer r)) (outcomeOf (keptRegular binary32 (g .entry)) (at x)) ⌝ }
-    ensures { λ r. ⌜ valueIn (asAnswer r) ≡ valueCarried binary32 (keptRegular binary32 (g .entry)) (at x) ⌝ }
+pub fn regular_interp_one<'a>(g: MulticubicRegularF32<'a>, x: [f32; 4]) -> MarkedAnswerF32
+    ensures { λ r. ⌜ asAnswer (r .answer) ≡ valueAnswer binary32 (keptRegular binary32 (g .entry)) (at x) ⌝ }
+    ensures { λ r. ⌜ r .marks ≡ markAnswer (keptRegular binary32 (g .entry)) (at x) ⌝ }
+    ensures { λ r. ⌜ Says (answerOutcome (asAnswer (r .answer))) (outcomeOf (keptRegular binary32 (g .entry)) (at x)) ⌝ }
+    ensures { λ r. ⌜ valueIn (asAnswer (r .answer)) ≡ valueCarried binary32 (keptRegular binary32 (g .entry)) (at x) ⌝ }
 {
     regular_f32::interp_one(g.axis_count, g.axes, g.vals, g.mode, x)
 }
 
 // The gradient at a query, or the refusal.
-pub fn regular_interp_one_grad<'a>(g: MulticubicRegularF32<'a>, x: [f32; 4]) -> GradientAnswerF32
-    ensures { λ r. ⌜ r .outcome ≡ outcomeOf (keptRegular binary32 (g .entry)) (at x) ⌝ }
-    ensures { λ r. ⌜ r .gradient ≡ gradientAnswer binary32 (keptRegular binary32 (g .entry)) (at x) ⌝ }
-    ensures { λ r. ⌜ Says (r .outcome) (outcomeOf (keptRegular binary32 (g .entry)) (at x)) ⌝ }
+pub fn regular_interp_one_grad<'a>(g: MulticubicRegularF32<'a>, x: [f32; 4]) -> MarkedGradientF32
+    ensures { λ r. ⌜ r .answer .outcome ≡ outcomeOf (keptRegular binary32 (g .entry)) (at x) ⌝ }
+    ensures { λ r. ⌜ r .answer .gradient ≡ gradientAnswer binary32 (keptRegular binary32 (g .entry)) (at x) ⌝ }
+    ensures { λ r. ⌜ r .marks ≡ markAnswer (keptRegular binary32 (g .entry)) (at x) ⌝ }
+    ensures { λ r. ⌜ Says (r .answer .outcome) (outcomeOf (keptRegular binary32 (g .entry)) (at x)) ⌝ }
 {
     regular_f32::interp_one_grad(g.axis_count, g.axes, g.vals, g.mode, x)
 }
@@ -120,10 +123,11 @@ pub fn ask_regular(
     vals: &[f32],
     mode: EdgeMode,
     x: [f32; 4],
-) -> AnswerF32
-    ensures { λ r. ⌜ asAnswer r ≡ valueAnswer binary32 (regularOf binary32 «axis_count» (asAxes axes) (now (vals .entry)) mode) (at x) ⌝ }
-    ensures { λ r. ⌜ Says (answerOutcome (asAnswer r)) (outcomeOf (regularOf binary32 «axis_count» (asAxes axes) (now (vals .entry)) mode) (at x)) ⌝ }
-    ensures { λ r. ⌜ valueIn (asAnswer r) ≡ valueCarried binary32 (regularOf binary32 «axis_count» (asAxes axes) (now (vals .entry)) mode) (at x) ⌝ }
+) -> MarkedAnswerF32
+    ensures { λ r. ⌜ asAnswer (r .answer) ≡ valueAnswer binary32 (regularOf binary32 «axis_count» (asAxes axes) (now (vals .entry)) mode) (at x) ⌝ }
+    ensures { λ r. ⌜ r .marks ≡ markAnswer (regularOf binary32 «axis_count» (asAxes axes) (now (vals .entry)) mode) (at x) ⌝ }
+    ensures { λ r. ⌜ Says (answerOutcome (asAnswer (r .answer))) (outcomeOf (regularOf binary32 «axis_count» (asAxes axes) (now (vals .entry)) mode) (at x)) ⌝ }
+    ensures { λ r. ⌜ valueIn (asAnswer (r .answer)) ≡ valueCarried binary32 (regularOf binary32 «axis_count» (asAxes axes) (now (vals .entry)) mode) (at x) ⌝ }
 {
     regular_interp_one(keep_regular(axis_count, axes, vals, mode), x)
 }
@@ -156,19 +160,24 @@ pub fn rectilinear_new<'a, 'b>(g: MulticubicRectilinearF32<'a, 'b>) -> Outcome
 }
 
 // The place of a query on the grid, in its mode.
-pub fn rectilinear_get_loc<'a, 'b>(g: MulticubicRectilinearF32<'a, 'b>, x: [f32; 4]) -> PlaceAnswer
-    ensures { λ r. ⌜ r .outcome ≡ outcomeOf (keptRectilinear binary32 (g .entry)) (at x) ⌝ }
-    ensures { λ r. ⌜ r .places ≡ placeAnswer (keptRectilinear binary32 (g .entry)) (at x) ⌝ }
-    ensures { λ r. ⌜ Says (r .outcome) (outcomeOf (keptRectilinear binary32 (g .entry)) (at x)) ⌝ }
+pub fn rectilinear_get_loc<'a, 'b>(g: MulticubicRectilinearF32<'a, 'b>, x: [f32; 4]) -> MarkedPlaces
+    ensures { λ r. ⌜ r .answer .outcome ≡ outcomeOf (keptRectilinear binary32 (g .entry)) (at x) ⌝ }
+    ensures { λ r. ⌜ r .answer .places ≡ placeAnswer (keptRectilinear binary32 (g .entry)) (at x) ⌝ }
+    ensures { λ r. ⌜ r .marks ≡ markAnswer (keptRectilinear binary32 (g .entry)) (at x) ⌝ }
+    ensures { λ r. ⌜ Says (r .answer .outcome) (outcomeOf (keptRectilinear binary32 (g .entry)) (at x)) ⌝ }
 {
     rectilinear_f32::get_loc(g.axis_count, g.counts, g.axes, g.vals, g.mode, x)
 }
 
 // The value at a query, or the refusal.
-pub fn rectilinear_interp_one<'a, 'b>(g: MulticubicRectilinearF32<'a, 'b>, x: [f32; 4]) -> AnswerF32
-    ensures { λ r. ⌜ asAnswer r ≡ valueAnswer binary32 (keptRectilinear binary32 (g .entry)) (at x) ⌝ }
-    ensures { λ r. ⌜ Says (answerOutcome (asAnswer r)) (outcomeOf (keptRectilinear binary32 (g .entry)) (at x)) ⌝ }
-    ensures { λ r. ⌜ valueIn (asAnswer r) ≡ valueCarried binary32 (keptRectilinear binary32 (g .entry)) (at x) ⌝ }
+pub fn rectilinear_interp_one<'a, 'b>(
+    g: MulticubicRectilinearF32<'a, 'b>,
+    x: [f32; 4],
+) -> MarkedAnswerF32
+    ensures { λ r. ⌜ asAnswer (r .answer) ≡ valueAnswer binary32 (keptRectilinear binary32 (g .entry)) (at x) ⌝ }
+    ensures { λ r. ⌜ r .marks ≡ markAnswer (keptRectilinear binary32 (g .entry)) (at x) ⌝ }
+    ensures { λ r. ⌜ Says (answerOutcome (asAnswer (r .answer))) (outcomeOf (keptRectilinear binary32 (g .entry)) (at x)) ⌝ }
+    ensures { λ r. ⌜ valueIn (asAnswer (r .answer)) ≡ valueCarried binary32 (keptRectilinear binary32 (g .entry)) (at x) ⌝ }
 {
     rectilinear_f32::interp_one(g.axis_count, g.counts, g.axes, g.vals, g.mode, x)
 }
@@ -177,10 +186,11 @@ pub fn rectilinear_interp_one<'a, 'b>(g: MulticubicRectilinearF32<'a, 'b>, x: [f
 pub fn rectilinear_interp_one_grad<'a, 'b>(
     g: MulticubicRectilinearF32<'a, 'b>,
     x: [f32; 4],
-) -> GradientAnswerF32
-    ensures { λ r. ⌜ r .outcome ≡ outcomeOf (keptRectilinear binary32 (g .entry)) (at x) ⌝ }
-    ensures { λ r. ⌜ r .gradient ≡ gradientAnswer binary32 (keptRectilinear binary32 (g .entry)) (at x) ⌝ }
-    ensures { λ r. ⌜ Says (r .outcome) (outcomeOf (keptRectilinear binary32 (g .entry)) (at x)) ⌝ }
+) -> MarkedGradientF32
+    ensures { λ r. ⌜ r .answer .outcome ≡ outcomeOf (keptRectilinear binary32 (g .entry)) (at x) ⌝ }
+    ensures { λ r. ⌜ r .answer .gradient ≡ gradientAnswer binary32 (keptRectilinear binary32 (g .entry)) (at x) ⌝ }
+    ensures { λ r. ⌜ r .marks ≡ markAnswer (keptRectilinear binary32 (g .entry)) (at x) ⌝ }
+    ensures { λ r. ⌜ Says (r .answer .outcome) (outcomeOf (keptRectilinear binary32 (g .entry)) (at x)) ⌝ }
 {
     rectilinear_f32::interp_one_grad(g.axis_count, g.counts, g.axes, g.vals, g.mode, x)
 }
@@ -219,15 +229,16 @@ pub fn ask_rectilinear(
     vals: &[f32],
     mode: EdgeMode,
     x: [f32; 4],
-) -> AnswerF32
+) -> MarkedAnswerF32
     ensures { λ r. ⌜
-        asAnswer r ≡ valueAnswer binary32 (rectilinearOf binary32 «axis_count» counts (now (axes .entry)) (now (vals .entry)) mode) (at x)
+        asAnswer (r .answer) ≡ valueAnswer binary32 (rectilinearOf binary32 «axis_count» counts (now (axes .entry)) (now (vals .entry)) mode) (at x)
+        ⌝ }
+    ensures { λ r. ⌜ r .marks ≡ markAnswer (rectilinearOf binary32 «axis_count» counts (now (axes .entry)) (now (vals .entry)) mode) (at x) ⌝ }
+    ensures { λ r. ⌜
+        Says (answerOutcome (asAnswer (r .answer))) (outcomeOf (rectilinearOf binary32 «axis_count» counts (now (axes .entry)) (now (vals .entry)) mode) (at x))
         ⌝ }
     ensures { λ r. ⌜
-        Says (answerOutcome (asAnswer r)) (outcomeOf (rectilinearOf binary32 «axis_count» counts (now (axes .entry)) (now (vals .entry)) mode) (at x))
-        ⌝ }
-    ensures { λ r. ⌜
-        valueIn (asAnswer r) ≡ valueCarried binary32 (rectilinearOf binary32 «axis_count» counts (now (axes .entry)) (now (vals .entry)) mode) (at x)
+        valueIn (asAnswer (r .answer)) ≡ valueCarried binary32 (rectilinearOf binary32 «axis_count» counts (now (axes .entry)) (now (vals .entry)) mode) (at x)
         ⌝ }
 {
     rectilinear_interp_one(keep_rectilinear(axis_count, counts, axes, vals, mode), x)

@@ -1,2 +1,3 @@
 -- What is guaranteed of the calls.
 pub mod Statements
+pub mod Marked

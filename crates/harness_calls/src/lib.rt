@@ -18,6 +18,9 @@ use harness_words::query_of;
 use harness_words::same;
 use multicubic::Answer;
 use multicubic::GradientAnswer;
+use multicubic::MarkedAnswer;
+use multicubic::MarkedGradient;
+use multicubic::MarkedPlaces;
 use multicubic::Outcome;
 use multicubic::Place;
 use multicubic::PlaceAnswer;
@@ -46,7 +49,7 @@ pub fn call_new(g: Group, axes: &[f64], vals: &[f64]) -> Outcome {
     regular::new(n, regular_axes, vals)
 }
 
-fn call_get_loc(g: Group, axes: &[f64], vals: &[f64], x: [f64; 4]) -> PlaceAnswer {
+pub fn call_get_loc(g: Group, axes: &[f64], vals: &[f64], x: [f64; 4]) -> MarkedPlaces {
     let n = g.n;
     let mode = g.mode;
     if g.rectilinear {
@@ -57,7 +60,7 @@ fn call_get_loc(g: Group, axes: &[f64], vals: &[f64], x: [f64; 4]) -> PlaceAnswe
     regular::get_loc(n, regular_axes, vals, mode, x)
 }
 
-fn call_interp_one(g: Group, axes: &[f64], vals: &[f64], x: [f64; 4]) -> Answer {
+pub fn call_interp_one(g: Group, axes: &[f64], vals: &[f64], x: [f64; 4]) -> MarkedAnswer {
     let n = g.n;
     let mode = g.mode;
     if g.rectilinear {
@@ -68,7 +71,7 @@ fn call_interp_one(g: Group, axes: &[f64], vals: &[f64], x: [f64; 4]) -> Answer 
     regular::interp_one(n, regular_axes, vals, mode, x)
 }
 
-fn call_interp_one_grad(g: Group, axes: &[f64], vals: &[f64], x: [f64; 4]) -> GradientAnswer {
+pub fn call_interp_one_grad(g: Group, axes: &[f64], vals: &[f64], x: [f64; 4]) -> MarkedGradient {
     let n = g.n;
     let mode = g.mode;
     if g.rectilinear {
@@ -175,7 +178,7 @@ fn same_gradient(t: Tally, e: Expected, answer: GradientAnswer) -> Tally {
     same_float(t, INTERP_ONE_GRAD, COMPONENT, 3, expected[3], gradient[3])
 }
 
-// The three single calls on a query.
+// The three single calls on a query; their marks are not compared.
 pub fn same_single(
     t: Tally,
     g: Group,
@@ -184,7 +187,13 @@ pub fn same_single(
     x: [f64; 4],
     e: Expected,
 ) -> Tally {
-    let t = same_places(t, e, call_get_loc(g, axes, vals, x));
-    let t = same_value(t, e, call_interp_one(g, axes, vals, x));
-    same_gradient(t, e, call_interp_one_grad(g, axes, vals, x))
+    let placed = call_get_loc(g, axes, vals, x);
+    let places = placed.answer;
+    let t = same_places(t, e, places);
+    let valued = call_interp_one(g, axes, vals, x);
+    let value = valued.answer;
+    let t = same_value(t, e, value);
+    let graded = call_interp_one_grad(g, axes, vals, x);
+    let gradient = graded.answer;
+    same_gradient(t, e, gradient)
 }

@@ -12,10 +12,12 @@ use harness_words::VALUE;
 use harness_words::same;
 use harness_words_f32::bits_of;
 use harness_words_f32::float_of;
+use multicubic::MarkedPlaces;
 use multicubic::Outcome;
-use multicubic::PlaceAnswer;
 use multicubic_f32::AnswerF32;
 use multicubic_f32::GradientAnswerF32;
+use multicubic_f32::MarkedAnswerF32;
+use multicubic_f32::MarkedGradientF32;
 use multicubic_f32::outcome_of;
 
 pub fn call_new(g: GroupF32, axes: &[f32], vals: &[f32]) -> Outcome {
@@ -28,7 +30,7 @@ pub fn call_new(g: GroupF32, axes: &[f32], vals: &[f32]) -> Outcome {
     regular_f32::new(n, regular_axes, vals)
 }
 
-fn call_get_loc(g: GroupF32, axes: &[f32], vals: &[f32], x: [f32; 4]) -> PlaceAnswer {
+pub fn call_get_loc(g: GroupF32, axes: &[f32], vals: &[f32], x: [f32; 4]) -> MarkedPlaces {
     let n = g.n;
     let mode = g.mode;
     if g.rectilinear {
@@ -39,7 +41,7 @@ fn call_get_loc(g: GroupF32, axes: &[f32], vals: &[f32], x: [f32; 4]) -> PlaceAn
     regular_f32::get_loc(n, regular_axes, vals, mode, x)
 }
 
-fn call_interp_one(g: GroupF32, axes: &[f32], vals: &[f32], x: [f32; 4]) -> AnswerF32 {
+pub fn call_interp_one(g: GroupF32, axes: &[f32], vals: &[f32], x: [f32; 4]) -> MarkedAnswerF32 {
     let n = g.n;
     let mode = g.mode;
     if g.rectilinear {
@@ -50,7 +52,12 @@ fn call_interp_one(g: GroupF32, axes: &[f32], vals: &[f32], x: [f32; 4]) -> Answ
     regular_f32::interp_one(n, regular_axes, vals, mode, x)
 }
 
-fn call_interp_one_grad(g: GroupF32, axes: &[f32], vals: &[f32], x: [f32; 4]) -> GradientAnswerF32 {
+pub fn call_interp_one_grad(
+    g: GroupF32,
+    axes: &[f32],
+    vals: &[f32],
+    x: [f32; 4],
+) -> MarkedGradientF32 {
     let n = g.n;
     let mode = g.mode;
     if g.rectilinear {
@@ -127,7 +134,7 @@ fn same_gradient(t: Tally, e: Expected, answer: GradientAnswerF32) -> Tally {
     same_float(t, INTERP_ONE_GRAD, COMPONENT, 3, expected[3], gradient[3])
 }
 
-// The three single calls on a query.
+// The three single calls on a query; their marks are not compared.
 pub fn same_single(
     t: Tally,
     g: GroupF32,
@@ -136,7 +143,13 @@ pub fn same_single(
     x: [f32; 4],
     e: Expected,
 ) -> Tally {
-    let t = same_places(t, e, call_get_loc(g, axes, vals, x));
-    let t = same_value(t, e, call_interp_one(g, axes, vals, x));
-    same_gradient(t, e, call_interp_one_grad(g, axes, vals, x))
+    let placed = call_get_loc(g, axes, vals, x);
+    let places = placed.answer;
+    let t = same_places(t, e, places);
+    let valued = call_interp_one(g, axes, vals, x);
+    let value = valued.answer;
+    let t = same_value(t, e, value);
+    let graded = call_interp_one_grad(g, axes, vals, x);
+    let gradient = graded.answer;
+    same_gradient(t, e, gradient)
 }

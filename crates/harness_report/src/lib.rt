@@ -38,7 +38,8 @@ fn say_item(item: u64) {
         5 => say(b" class "),
         6 => say(b" value "),
         7 => say(b" component "),
-        _ => say(b" entry "),
+        8 => say(b" entry "),
+        _ => say(b" mark "),
     }
 }
 

@@ -8,3 +8,4 @@ pub mod Gap
 pub mod Multiple
 pub mod Rank
 pub mod Order
+pub mod Rises

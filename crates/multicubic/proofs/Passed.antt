@@ -21,7 +21,7 @@ then-accepted Accepted b e = (refl, e)
 then-accepted (Refused number query axis) b e = absurd (not-accepted number query axis e)
 
 -- a fault refuses, so there is none
-no-fault : (fault : Bool) (k axis : ℕ) (later : Outcome) → cond fault (Refused k 0 axis) later ≡ Accepted → (fault ≡ false) × (later ≡ Accepted)
+pub no-fault : (fault : Bool) (k axis : ℕ) (later : Outcome) → cond fault (Refused k 0 axis) later ≡ Accepted → (fault ≡ false) × (later ≡ Accepted)
 no-fault true k axis later e = absurd (not-accepted k 0 axis e)
 no-fault false k axis later e = (refl, e)
 

@@ -9,7 +9,7 @@ use Rattle.multicubic.specs.Answers.{numberOf, queryOf, axisOf, Says, ca
 pub says : {outcome defined : Outcome} → outcome ≡ defined → Says outcome defined
 says e = (ap numberOf e, ap queryOf e, ap axisOf e)
 
-outcome-of : (outcome : Outcome) (x : Float) → answerOutcome (answered outcome x) ≡ outcome
+pub outcome-of : (outcome : Outcome) (x : Float) → answerOutcome (answered outcome x) ≡ outcome
 outcome-of Accepted x = refl
 outcome-of (Refused number query axis) x = refl
 

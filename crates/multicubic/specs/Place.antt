@@ -10,6 +10,7 @@ use Rattle.multicubic.specs.declared.Saturation.the-variants.{None, Insi
 use Rattle.multicubic.specs.declared.Place.{Place}
 use Rattle.multicubic.specs.declared.Loc.{Loc}
 use Rattle.multicubic.specs.declared.Loc.the-variants.{At, Unplaceable}
+use Rattle.multicubic.specs.declared.Marks.{Marks}
 use Rattle.multicubic.specs.declared.EdgeMode.{EdgeMode}
 use Rattle.multicubic.specs.declared.EdgeMode.the-variants.{Cubic, Straight, Held}
 
@@ -37,6 +38,10 @@ placeOf n l = record { origin = originOf n l; class = classOf n l }
 -- what stands in place of a place: past the axis count, and on refusal
 abbrev pub nowhere : Place
 nowhere = record { origin = 0; class = None }
+
+-- neither mark: past the axis count, and on refusal
+abbrev pub unmarked : Marks
+unmarked = record { below = false; above = false }
 
 -- `linearize_extrapolation`: the two Outside classes follow a straight line
 abbrev pub straightOf : EdgeMode → Bool

@@ -7,7 +7,7 @@ ghost use lib.IntN.{pos, _-ℤ_};
 ghost use lib.ListN.{take};
 ghost use Rattle.multicubic.specs.Grid.{product, sum, anyOver, lowest, misjoined, sizeChecks};
 ghost use Rattle.multicubic.specs.Place.{straightOf, placeOf};
-ghost use Rattle.multicubic.specs.Internal.{fourNowhere};
+ghost use Rattle.multicubic.specs.Internal.{fourNowhere, fourUnmarked};
 ghost use Rattle.multicubic.specs.Answers.{answerOutcome, answered};
 ghost use Rattle.multicubic.specs.Same.{asAnswer};
 
@@ -82,6 +82,22 @@ pub struct PlaceAnswer {
 pub struct GradientAnswer {
     pub outcome: Outcome,
     pub gradient: [f64; 4],
+}
+
+// A single answer beside its marks, one pair for each axis: unset past the axis count, and on refusal.
+pub struct MarkedAnswer {
+    pub answer: Answer,
+    pub marks: [Marks; 4],
+}
+
+pub struct MarkedGradient {
+    pub answer: GradientAnswer,
+    pub marks: [Marks; 4],
+}
+
+pub struct MarkedPlaces {
+    pub answer: PlaceAnswer,
+    pub marks: [Marks; 4],
 }
 
 // The length of the joined axes of a rectilinear grid; a regular grid has none.
@@ -181,6 +197,17 @@ pub fn nowhere() -> [Place; 4]
         class: Saturation::None,
     };
     [place; 4]
+}
+
+// Neither end, on four axes.
+pub fn unmarked() -> [Marks; 4]
+    ensures { λ r. ⌜ r ≡ fourUnmarked ⌝ }
+{
+    let neither = Marks {
+        below: false,
+        above: false,
+    };
+    [neither; 4]
 }
 
 // Whether the Outside classes follow a straight line: the Rust's `linearize_extrapolation`.

@@ -3,6 +3,7 @@
 ghost use mathlib.Core.Path.{_≡_};
 ghost use Rattle.multicubic.specs.Answers.{answerOutcome, answered};
 ghost use Rattle.multicubic_f32.specs.Same.{asAnswer};
+use multicubic::Marks;
 use multicubic::Outcome;
 
 // A regular axis.
@@ -26,6 +27,17 @@ pub enum AnswerF32 {
 pub struct GradientAnswerF32 {
     pub outcome: Outcome,
     pub gradient: [f32; 4],
+}
+
+// A single answer beside its marks, one pair for each axis: unset past the axis count, and on refusal.
+pub struct MarkedAnswerF32 {
+    pub answer: AnswerF32,
+    pub marks: [Marks; 4],
+}
+
+pub struct MarkedGradientF32 {
+    pub answer: GradientAnswerF32,
+    pub marks: [Marks; 4],
 }
 
 // The outcome as a value's answer: the refusal, or the value where there is none.

@@ -16,12 +16,12 @@ use Rattle.multicubic.specs.Grid.{sum}
 use Rattle.rectilinear_order.specs.Grid.{axesOf}
 use Rattle.rectilinear_axis.specs.Nodes.{Premises}
 use Rattle.rectilinear_axis.proofs.AtNodes.{node-finite, nodes-rise, at-node}
-use Rattle.grid.specs.Query.{GridAxis, hold, heldAxis}
+use Rattle.grid.specs.Query.{GridAxis, heldAxis}
 use Rattle.grid.specs.Edges.{AtClamped}
 use Rattle.grid.specs.Nodes.{All, Fits}
 use Rattle.grid.proofs.Premises.{NodeLaw, NodeLaws, Long}
 use Rattle.grid.proofs.AtNodes.{AtEach}
-use Rattle.grid.proofs.Edges.{InOrder, holds-once, edge-law, clamped-each}
+use Rattle.grid.proofs.Edges.{InOrder, edge-order, edge-law, clamped-each}
 use Rattle.grid.proofs.Sizes.{all-long}
 use Rattle.rectilinear_query.specs.Grid.{gridAxis, axisIn, gridAxes, axesIn, gridOf, AllPremises}
 use Rattle.rectilinear_query.proofs.Sizes.{part-length, rest-length, passed, joined-length}
@@ -42,8 +42,8 @@ module _ (f : Format) (g : List Float) (long : 4 ≤ length g) (fit : Fits f g) 
   axis-law : (straight : Bool) → NodeLaw f (gridAxis f straight g)
   axis-law straight i inside x held at = (pos i -ℤ pos 2, at-node f straight g long fit premises i inside x held at)
 
-  axis-order : InOrder f (gridAxis f false g)
-  axis-order = record {
+  axis-order : (straight : Bool) → InOrder f (gridAxis f straight g)
+  axis-order straight = record {
     some = omega arith;
     fit = fit;
     whole = λ i h. node-finite f g long fit premises i h;
@@ -55,15 +55,15 @@ laws f mode [] joined e long fit premises = tt
 laws f mode (c ∷ cs) joined e long fit premises =
     let l = part-length c cs joined e in
     let four : 4 ≤ length (take c joined) = omega (arith, long .0) in (
-      edge-law f mode (λ straight. gridAxis f straight (take c joined)) (axis-law f (take c joined) four (part-fits f c joined fit) (premises .0)) (axis-order f (take c joined) four (part-fits f c joined fit) (premises .0)),
+      edge-law f mode (λ straight. gridAxis f straight (take c joined)) (axis-law f (take c joined) four (part-fits f c joined fit) (premises .0)) (axis-order f (take c joined) four (part-fits f c joined fit) (premises .0) false),
       laws f mode cs (drop c joined) (rest-length c cs joined e) (long .1) (rest-fits f c joined fit) (premises .1),
     )
 
-orders : (f : Format) (cs : List ℕ) (joined : List Float) → length joined ≡ sum cs → Long cs → Fits f joined → AllPremises f (axesOf cs joined) → All (InOrder f) (gridAxes f Cubic (axesOf cs joined))
-orders f [] joined e long fit premises = tt
-orders f (c ∷ cs) joined e long fit premises =
+orders : (f : Format) (mode : EdgeMode) (cs : List ℕ) (joined : List Float) → length joined ≡ sum cs → Long cs → Fits f joined → AllPremises f (axesOf cs joined) → All (InOrder f) (gridAxes f mode (axesOf cs joined))
+orders f mode [] joined e long fit premises = tt
+orders f mode (c ∷ cs) joined e long fit premises =
     let l = part-length c cs joined e in
-    (axis-order f (take c joined) (omega (arith, long .0)) (part-fits f c joined fit) (premises .0), orders f cs (drop c joined) (rest-length c cs joined e) (long .1) (rest-fits f c joined fit) (premises .1))
+    (edge-order f mode (λ straight. gridAxis f straight (take c joined)) (axis-order f (take c joined) (omega (arith, long .0)) (part-fits f c joined fit) (premises .0)), orders f mode cs (drop c joined) (rest-length c cs joined e) (long .1) (rest-fits f c joined fit) (premises .1))
 
 -- the axes that hold their edges are the cubic ones, held
 pub held-axes : (f : Format) (axes : List (List Float)) → map heldAxis (gridAxes f Cubic axes) ≡ gridAxes f Held axes
@@ -80,14 +80,14 @@ module _ (f : Format) (n : ℕ) (counts : List ℕ) (joined vals : List Float) (
   pub node-laws : NodeLaws f (axesIn f mode n counts joined)
   node-laws = laws f mode (take n counts) joined total long fit premises
 
-  -- what is held stays where it is
-  pub held-once : All (λ (g : GridAxis). (given : Float) → hold g (hold g given) ≡ hold g given) (axesIn f Cubic n counts joined)
-  held-once = holds-once f (axesIn f Cubic n counts joined) (orders f (take n counts) joined total long fit premises)
+  -- their nodes are in order
+  pub in-order : All (InOrder f) (axesIn f mode n counts joined)
+  in-order = orders f mode (take n counts) joined total long fit premises
 
   -- in held mode, of a query at a node or past an end
   pub clamped-rows : (is : List ℕ) (query : ℕ → Float) → ((a : ℕ) → T (fits f (query a))) → AtClamped 0 (axesIn f Held n counts joined) is query → AtEach 0 (axesIn f Held n counts joined) is query
   clamped-rows is query typed at =
       let parts = axesOf (take n counts) joined in
       subst (λ (gs : List GridAxis). AtEach 0 gs is query) (held-axes f parts)
-      (clamped-each f query typed 0 (gridAxes f Cubic parts) is (laws f Cubic (take n counts) joined total long fit premises) (orders f (take n counts) joined total long fit premises)
+      (clamped-each f query typed 0 (gridAxes f Cubic parts) is (laws f Cubic (take n counts) joined total long fit premises) (orders f Cubic (take n counts) joined total long fit premises)
       (subst (λ (gs : List GridAxis). AtClamped 0 gs is query) (sym (held-axes f parts)) at))

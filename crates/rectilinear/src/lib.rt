@@ -4,7 +4,7 @@ ghost use lib.ListN.{length};
 ghost use lib.Ieee.{binary64};
 ghost use Rattle.multicubic.specs.Answers.{Says, answerOutcome, valueIn};
 ghost use Rattle.multicubic.specs.Same.{asAnswer};
-ghost use Rattle.grid.specs.Query.{find, foundOutcome, outcomeOf, at, placeAnswer, valueAnswer, valueCarried, gradientAnswer};
+ghost use Rattle.grid.specs.Query.{find, foundOutcome, outcomeOf, at, placeAnswer, valueAnswer, valueCarried, gradientAnswer, markAnswer};
 ghost use Rattle.grid.specs.Internal.{Located, gradientTo};
 ghost use Rattle.rectilinear_query.specs.Grid.{checksOf, axesIn, gridOf};
 ghost use Rattle.rectilinear_query.specs.Internal.{Taken, Ready};
@@ -14,6 +14,9 @@ use multicubic::AxesLength;
 use multicubic::EdgeMode;
 use multicubic::GradientAnswer;
 use multicubic::Loc;
+use multicubic::MarkedAnswer;
+use multicubic::MarkedGradient;
+use multicubic::MarkedPlaces;
 use multicubic::Outcome;
 use multicubic::PlaceAnswer;
 use multicubic::answered;
@@ -24,6 +27,7 @@ use multicubic::refused_query;
 use rectilinear_axis::hold;
 use rectilinear_order::check_order;
 use rectilinear_query::answer_at;
+use rectilinear_query::marks_of;
 use rectilinear_query::replaced_at;
 use reduction::strides;
 
@@ -81,7 +85,7 @@ fn locate(
 }
 
 // The place of a query on a grid: the grid's checks, then origin and class on every axis, or 8.
-pub fn get_loc(
+fn find_place(
     axis_count: usize,
     counts: [usize; 4],
     axes: &[f64],
@@ -104,7 +108,7 @@ pub fn get_loc(
 }
 
 // The value at a query, or the refusal.
-pub fn interp_one(
+fn find_value(
     axis_count: usize,
     counts: [usize; 4],
     axes: &[f64],
@@ -188,7 +192,7 @@ fn gradient_at(
 }
 
 // The gradient at a query, or the refusal.
-pub fn interp_one_grad(
+fn find_gradient(
     axis_count: usize,
     counts: [usize; 4],
     axes: &[f64],
@@ -218,4 +222,63 @@ pub fn interp_one_grad(
             x,
         ),
     }
+}
+
+// The place of a query: origin and class on every axis, or the refusal.
+pub fn get_loc(
+    axis_count: usize,
+    counts: [usize; 4],
+    axes: &[f64],
+    vals: &[f64],
+    mode: EdgeMode,
+    x: [f64; 4],
+) -> MarkedPlaces
+    ensures { λ r. ⌜ r .answer .outcome ≡ outcomeOf (gridOf binary64 «axis_count» counts (now (axes .entry)) (now (vals .entry)) mode) (at x) ⌝ }
+    ensures { λ r. ⌜ r .answer .places ≡ placeAnswer (gridOf binary64 «axis_count» counts (now (axes .entry)) (now (vals .entry)) mode) (at x) ⌝ }
+    ensures { λ r. ⌜ r .marks ≡ markAnswer (gridOf binary64 «axis_count» counts (now (axes .entry)) (now (vals .entry)) mode) (at x) ⌝ }
+    ensures { λ r. ⌜ Says (r .answer .outcome) (outcomeOf (gridOf binary64 «axis_count» counts (now (axes .entry)) (now (vals .entry)) mode) (at x)) ⌝ }
+{
+    let answer = find_place(axis_count, counts, axes, vals, mode, x);
+    let outcome = answer.outcome;
+    let marks = marks_of(outcome, axis_count, counts, axes, x);
+    MarkedPlaces { answer, marks }
+}
+
+// The value at a query, or the refusal.
+pub fn interp_one(
+    axis_count: usize,
+    counts: [usize; 4],
+    axes: &[f64],
+    vals: &[f64],
+    mode: EdgeMode,
+    x: [f64; 4],
+) -> MarkedAnswer
+    ensures { λ r. ⌜ asAnswer (r .answer) ≡ valueAnswer binary64 (gridOf binary64 «axis_count» counts (now (axes .entry)) (now (vals .entry)) mode) (at x) ⌝ }
+    ensures { λ r. ⌜ r .marks ≡ markAnswer (gridOf binary64 «axis_count» counts (now (axes .entry)) (now (vals .entry)) mode) (at x) ⌝ }
+    ensures { λ r. ⌜ Says (answerOutcome (asAnswer (r .answer))) (outcomeOf (gridOf binary64 «axis_count» counts (now (axes .entry)) (now (vals .entry)) mode) (at x)) ⌝ }
+    ensures { λ r. ⌜ valueIn (asAnswer (r .answer)) ≡ valueCarried binary64 (gridOf binary64 «axis_count» counts (now (axes .entry)) (now (vals .entry)) mode) (at x) ⌝ }
+{
+    let answer = find_value(axis_count, counts, axes, vals, mode, x);
+    let marks = marks_of(outcome_of(answer), axis_count, counts, axes, x);
+    MarkedAnswer { answer, marks }
+}
+
+// The gradient at a query, or the refusal.
+pub fn interp_one_grad(
+    axis_count: usize,
+    counts: [usize; 4],
+    axes: &[f64],
+    vals: &[f64],
+    mode: EdgeMode,
+    x: [f64; 4],
+) -> MarkedGradient
+    ensures { λ r. ⌜ r .answer .outcome ≡ outcomeOf (gridOf binary64 «axis_count» counts (now (axes .entry)) (now (vals .entry)) mode) (at x) ⌝ }
+    ensures { λ r. ⌜ r .answer .gradient ≡ gradientAnswer binary64 (gridOf binary64 «axis_count» counts (now (axes .entry)) (now (vals .entry)) mode) (at x) ⌝ }
+    ensures { λ r. ⌜ r .marks ≡ markAnswer (gridOf binary64 «axis_count» counts (now (axes .entry)) (now (vals .entry)) mode) (at x) ⌝ }
+    ensures { λ r. ⌜ Says (r .answer .outcome) (outcomeOf (gridOf binary64 «axis_count» counts (now (axes .entry)) (now (vals .entry)) mode) (at x)) ⌝ }
+{
+    let answer = find_gradient(axis_count, counts, axes, vals, mode, x);
+    let outcome = answer.outcome;
+    let marks = marks_of(outcome, axis_count, counts, axes, x);
+    MarkedGradient { answer, marks }
 }

@@ -4,7 +4,7 @@ ghost use mathlib.Core.Path.{_≡_};
 ghost use lib.ListN.{length};
 ghost use lib.Ieee.{binary32};
 ghost use Rattle.multicubic.specs.Answers.{Says, answerOutcome, valueIn};
-ghost use Rattle.grid.specs.Query.{find, foundOutcome, outcomeOf, at, placeAnswer, valueAnswer, valueCarried, gradientAnswer};
+ghost use Rattle.grid.specs.Query.{find, foundOutcome, outcomeOf, at, placeAnswer, valueAnswer, valueCarried, gradientAnswer, markAnswer};
 ghost use Rattle.grid.specs.Internal.{Located, gradientTo};
 ghost use Rattle.rectilinear_query.specs.Grid.{checksOf, axesIn, gridOf};
 ghost use Rattle.rectilinear_query.specs.Internal.{Taken, Ready};
@@ -13,6 +13,7 @@ use grid::Quantity;
 use multicubic::AxesLength;
 use multicubic::EdgeMode;
 use multicubic::Loc;
+use multicubic::MarkedPlaces;
 use multicubic::Outcome;
 use multicubic::PlaceAnswer;
 use multicubic::check_sizes;
@@ -20,11 +21,14 @@ use multicubic::nowhere;
 use multicubic::refused_query;
 use multicubic_f32::AnswerF32;
 use multicubic_f32::GradientAnswerF32;
+use multicubic_f32::MarkedAnswerF32;
+use multicubic_f32::MarkedGradientF32;
 use multicubic_f32::answered;
 use multicubic_f32::outcome_of;
 use rectilinear_axis_f32::hold;
 use rectilinear_order_f32::check_order;
 use rectilinear_query_f32::answer_at;
+use rectilinear_query_f32::marks_of;
 use rectilinear_query_f32::replaced_at;
 use reduction::strides;
 
@@ -82,7 +86,7 @@ fn locate(
 }
 
 // The place of a query on a grid: the grid's checks, then origin and class on every axis, or 8.
-pub fn get_loc(
+fn find_place(
     axis_count: usize,
     counts: [usize; 4],
     axes: &[f32],
@@ -105,7 +109,7 @@ pub fn get_loc(
 }
 
 // The value at a query, or the refusal.
-pub fn interp_one(
+fn find_value(
     axis_count: usize,
     counts: [usize; 4],
     axes: &[f32],
@@ -189,7 +193,7 @@ fn gradient_at(
 }
 
 // The gradient at a query, or the refusal.
-pub fn interp_one_grad(
+fn find_gradient(
     axis_count: usize,
     counts: [usize; 4],
     axes: &[f32],
@@ -219,4 +223,63 @@ pub fn interp_one_grad(
             x,
         ),
     }
+}
+
+// The place of a query: origin and class on every axis, or the refusal.
+pub fn get_loc(
+    axis_count: usize,
+    counts: [usize; 4],
+    axes: &[f32],
+    vals: &[f32],
+    mode: EdgeMode,
+    x: [f32; 4],
+) -> MarkedPlaces
+    ensures { λ r. ⌜ r .answer .outcome ≡ outcomeOf (gridOf binary32 «axis_count» counts (now (axes .entry)) (now (vals .entry)) mode) (at x) ⌝ }
+    ensures { λ r. ⌜ r .answer .places ≡ placeAnswer (gridOf binary32 «axis_count» counts (now (axes .entry)) (now (vals .entry)) mode) (at x) ⌝ }
+    ensures { λ r. ⌜ r .marks ≡ markAnswer (gridOf binary32 «axis_count» counts (now (axes .entry)) (now (vals .entry)) mode) (at x) ⌝ }
+    ensures { λ r. ⌜ Says (r .answer .outcome) (outcomeOf (gridOf binary32 «axis_count» counts (now (axes .entry)) (now (vals .entry)) mode) (at x)) ⌝ }
+{
+    let answer = find_place(axis_count, counts, axes, vals, mode, x);
+    let outcome = answer.outcome;
+    let marks = marks_of(outcome, axis_count, counts, axes, x);
+    MarkedPlaces { answer, marks }
+}
+
+// The value at a query, or the refusal.
+pub fn interp_one(
+    axis_count: usize,
+    counts: [usize; 4],
+    axes: &[f32],
+    vals: &[f32],
+    mode: EdgeMode,
+    x: [f32; 4],
+) -> MarkedAnswerF32
+    ensures { λ r. ⌜ asAnswer (r .answer) ≡ valueAnswer binary32 (gridOf binary32 «axis_count» counts (now (axes .entry)) (now (vals .entry)) mode) (at x) ⌝ }
+    ensures { λ r. ⌜ r .marks ≡ markAnswer (gridOf binary32 «axis_count» counts (now (axes .entry)) (now (vals .entry)) mode) (at x) ⌝ }
+    ensures { λ r. ⌜ Says (answerOutcome (asAnswer (r .answer))) (outcomeOf (gridOf binary32 «axis_count» counts (now (axes .entry)) (now (vals .entry)) mode) (at x)) ⌝ }
+    ensures { λ r. ⌜ valueIn (asAnswer (r .answer)) ≡ valueCarried binary32 (gridOf binary32 «axis_count» counts (now (axes .entry)) (now (vals .entry)) mode) (at x) ⌝ }
+{
+    let answer = find_value(axis_count, counts, axes, vals, mode, x);
+    let marks = marks_of(outcome_of(answer), axis_count, counts, axes, x);
+    MarkedAnswerF32 { answer, marks }
+}
+
+// The gradient at a query, or the refusal.
+pub fn interp_one_grad(
+    axis_count: usize,
+    counts: [usize; 4],
+    axes: &[f32],
+    vals: &[f32],
+    mode: EdgeMode,
+    x: [f32; 4],
+) -> MarkedGradientF32
+    ensures { λ r. ⌜ r .answer .outcome ≡ outcomeOf (gridOf binary32 «axis_count» counts (now (axes .entry)) (now (vals .entry)) mode) (at x) ⌝ }
+    ensures { λ r. ⌜ r .answer .gradient ≡ gradientAnswer binary32 (gridOf binary32 «axis_count» counts (now (axes .entry)) (now (vals .entry)) mode) (at x) ⌝ }
+    ensures { λ r. ⌜ r .marks ≡ markAnswer (gridOf binary32 «axis_count» counts (now (axes .entry)) (now (vals .entry)) mode) (at x) ⌝ }
+    ensures { λ r. ⌜ Says (r .answer .outcome) (outcomeOf (gridOf binary32 «axis_count» counts (now (axes .entry)) (now (vals .entry)) mode) (at x)) ⌝ }
+{
+    let answer = find_gradient(axis_count, counts, axes, vals, mode, x);
+    let outcome = answer.outcome;
+    let marks = marks_of(outcome, axis_count, counts, axes, x);
+    MarkedGradientF32 { answer, marks }
 }

@@ -4,22 +4,27 @@ ghost use mathlib.Core.Bool.{Bool};
 ghost use Prim.Native.Nat.{_+_, _*_, _≤_, _<_};
 ghost use lib.ListN.{length};
 ghost use lib.Ieee.{binary64};
+ghost use Rattle.multicubic.specs.declared.EdgeMode.{EdgeMode};
+ghost use Rattle.multicubic.specs.declared.Outcome.the-variants.{Accepted};
 ghost use Rattle.multicubic.specs.Same.{asAnswer};
+ghost use Rattle.grid.specs.Query.{at, marksBeside};
 ghost use Rattle.grid.specs.Batch.{foundAt};
 ghost use Rattle.grid.specs.Internal.{replacedIn, rowBy, Asked, answerTo};
 ghost use Rattle.rectilinear_query.specs.Grid.{gridAxis, axesIn};
-ghost use Rattle.rectilinear_query.specs.Internal.{Ready};
+ghost use Rattle.rectilinear_query.specs.Internal.{Taken, Ready};
 use grid::Quantity;
 use grid::is_component;
 use multicubic::Answer;
 use multicubic::EdgeMode;
 use multicubic::Loc;
 use multicubic::Marks;
+use multicubic::Outcome;
 use multicubic::Place;
 use multicubic::answered;
 use multicubic::is_past;
 use multicubic::linearize_extrapolation;
 use multicubic::refused_query;
+use multicubic::unmarked;
 use rectilinear_axis::derivatives_at;
 use rectilinear_axis::get_loc;
 use rectilinear_axis::hold;
@@ -65,6 +70,41 @@ fn row_at(
         return derivatives_at(entries, x, place, linearize_extrapolation);
     }
     weights_at(entries, x, place, linearize_extrapolation)
+}
+
+// Past which ends of each of its axes a query lies.
+fn marks_along(axis_count: usize, counts: [usize; 4], axes: &[f64], x: [f64; 4]) -> [Marks; 4]
+    requires { ⌜ Taken «axis_count» counts (now axes) ⌝ }
+    ensures { λ r. ⌜ ((mode : EdgeMode) → r ≡ marksBeside Accepted (axesIn binary64 mode «axis_count» counts (now (axes .entry))) (at x)) ⌝ }
+{
+    let mut marks = unmarked();
+    let mut start: usize = 0;
+    let mut i: usize = 0;
+    while i < axis_count {
+        let end = start + counts[i];
+        let given = x[i];
+        marks[i] = marks_at(&axes[start..end], given);
+        start = end;
+        i += 1;
+    }
+    marks
+}
+
+// The marks beside a single query's outcome: none on refusal.
+pub fn marks_of(
+    outcome: Outcome,
+    axis_count: usize,
+    counts: [usize; 4],
+    axes: &[f64],
+    x: [f64; 4],
+) -> [Marks; 4]
+    requires { ⌜ (outcome ≡ Accepted → Taken «axis_count» counts (now axes)) ⌝ }
+    ensures { λ r. ⌜ ((mode : EdgeMode) → r ≡ marksBeside outcome (axesIn binary64 mode «axis_count» counts (now (axes .entry))) (at x)) ⌝ }
+{
+    match outcome {
+        Outcome::Refused { .. } => unmarked(),
+        Outcome::Accepted => marks_along(axis_count, counts, axes, x),
+    }
 }
 
 // What is asked of query i of a batch, in one pass over the axes: the coordinate as used in place of the one given, place, weigh, add to the

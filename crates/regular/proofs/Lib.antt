@@ -1,4 +1,5 @@
--- Section 8 on a regular grid.
+-- Section 8 on a regular grid, and the ends of its axes.
 pub mod Laws
+pub mod Ends
 pub mod Guarantees
 pub mod Examples

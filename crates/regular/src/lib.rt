@@ -6,7 +6,7 @@ ghost use lib.Ieee.{binary64};
 ghost use Rattle.multicubic.specs.Grid.{lowest};
 ghost use Rattle.multicubic.specs.Answers.{Says, answerOutcome, valueIn};
 ghost use Rattle.multicubic.specs.Same.{asAnswer};
-ghost use Rattle.grid.specs.Query.{find, foundOutcome, outcomeOf, at, placeAnswer, valueAnswer, valueCarried, gradientAnswer};
+ghost use Rattle.grid.specs.Query.{find, foundOutcome, outcomeOf, at, placeAnswer, valueAnswer, valueCarried, gradientAnswer, markAnswer};
 ghost use Rattle.grid.specs.Internal.{Located, gradientTo};
 ghost use Rattle.regular_query.specs.Grid.{notRising, checksOf, axesIn, gridOf};
 ghost use Rattle.regular_query.specs.Internal.{Taken, Ready};
@@ -17,6 +17,9 @@ use multicubic::Axis;
 use multicubic::EdgeMode;
 use multicubic::GradientAnswer;
 use multicubic::Loc;
+use multicubic::MarkedAnswer;
+use multicubic::MarkedGradient;
+use multicubic::MarkedPlaces;
 use multicubic::Outcome;
 use multicubic::PlaceAnswer;
 use multicubic::answered;
@@ -28,6 +31,7 @@ use reduction::strides;
 use regular_axis::hold;
 use regular_query::answer_at;
 use regular_query::counts_of;
+use regular_query::marks_of;
 use regular_query::replaced_at;
 
 // Check 5: the lowest axis whose step is not above 0.
@@ -91,7 +95,7 @@ fn locate(axis_count: usize, axes: [Axis; 4], mode: EdgeMode, x: [f64; 4]) -> Pl
 }
 
 // The place of a query on a grid: the grid's checks, then origin and class on every axis, or 8.
-pub fn get_loc(
+fn find_place(
     axis_count: usize,
     axes: [Axis; 4],
     vals: &[f64],
@@ -113,7 +117,7 @@ pub fn get_loc(
 }
 
 // The value at a query, or the refusal.
-pub fn interp_one(
+fn find_value(
     axis_count: usize,
     axes: [Axis; 4],
     vals: &[f64],
@@ -191,7 +195,7 @@ fn gradient_at(
 }
 
 // The gradient at a query, or the refusal.
-pub fn interp_one_grad(
+fn find_gradient(
     axis_count: usize,
     axes: [Axis; 4],
     vals: &[f64],
@@ -217,4 +221,60 @@ pub fn interp_one_grad(
             x,
         ),
     }
+}
+
+// The place of a query: origin and class on every axis, or the refusal.
+pub fn get_loc(
+    axis_count: usize,
+    axes: [Axis; 4],
+    vals: &[f64],
+    mode: EdgeMode,
+    x: [f64; 4],
+) -> MarkedPlaces
+    ensures { λ r. ⌜ r .answer .outcome ≡ outcomeOf (gridOf binary64 «axis_count» axes (now (vals .entry)) mode) (at x) ⌝ }
+    ensures { λ r. ⌜ r .answer .places ≡ placeAnswer (gridOf binary64 «axis_count» axes (now (vals .entry)) mode) (at x) ⌝ }
+    ensures { λ r. ⌜ r .marks ≡ markAnswer (gridOf binary64 «axis_count» axes (now (vals .entry)) mode) (at x) ⌝ }
+    ensures { λ r. ⌜ Says (r .answer .outcome) (outcomeOf (gridOf binary64 «axis_count» axes (now (vals .entry)) mode) (at x)) ⌝ }
+{
+    let answer = find_place(axis_count, axes, vals, mode, x);
+    let outcome = answer.outcome;
+    let marks = marks_of(outcome, axis_count, axes, x);
+    MarkedPlaces { answer, marks }
+}
+
+// The value at a query, or the refusal.
+pub fn interp_one(
+    axis_count: usize,
+    axes: [Axis; 4],
+    vals: &[f64],
+    mode: EdgeMode,
+    x: [f64; 4],
+) -> MarkedAnswer
+    ensures { λ r. ⌜ asAnswer (r .answer) ≡ valueAnswer binary64 (gridOf binary64 «axis_count» axes (now (vals .entry)) mode) (at x) ⌝ }
+    ensures { λ r. ⌜ r .marks ≡ markAnswer (gridOf binary64 «axis_count» axes (now (vals .entry)) mode) (at x) ⌝ }
+    ensures { λ r. ⌜ Says (answerOutcome (asAnswer (r .answer))) (outcomeOf (gridOf binary64 «axis_count» axes (now (vals .entry)) mode) (at x)) ⌝ }
+    ensures { λ r. ⌜ valueIn (asAnswer (r .answer)) ≡ valueCarried binary64 (gridOf binary64 «axis_count» axes (now (vals .entry)) mode) (at x) ⌝ }
+{
+    let answer = find_value(axis_count, axes, vals, mode, x);
+    let marks = marks_of(outcome_of(answer), axis_count, axes, x);
+    MarkedAnswer { answer, marks }
+}
+
+// The gradient at a query, or the refusal.
+pub fn interp_one_grad(
+    axis_count: usize,
+    axes: [Axis; 4],
+    vals: &[f64],
+    mode: EdgeMode,
+    x: [f64; 4],
+) -> MarkedGradient
+    ensures { λ r. ⌜ r .answer .outcome ≡ outcomeOf (gridOf binary64 «axis_count» axes (now (vals .entry)) mode) (at x) ⌝ }
+    ensures { λ r. ⌜ r .answer .gradient ≡ gradientAnswer binary64 (gridOf binary64 «axis_count» axes (now (vals .entry)) mode) (at x) ⌝ }
+    ensures { λ r. ⌜ r .marks ≡ markAnswer (gridOf binary64 «axis_count» axes (now (vals .entry)) mode) (at x) ⌝ }
+    ensures { λ r. ⌜ Says (r .answer .outcome) (outcomeOf (gridOf binary64 «axis_count» axes (now (vals .entry)) mode) (at x)) ⌝ }
+{
+    let answer = find_gradient(axis_count, axes, vals, mode, x);
+    let outcome = answer.outcome;
+    let marks = marks_of(outcome, axis_count, axes, x);
+    MarkedGradient { answer, marks }
 }

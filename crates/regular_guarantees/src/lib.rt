@@ -4,14 +4,15 @@ ghost use lib.ListN.{take};
 ghost use lib.Ieee.{binary64};
 ghost use Rattle.multicubic.specs.Same.{asAnswer};
 ghost use Rattle.multicubic.specs.declared.EdgeMode.the-variants.{Held};
-ghost use Rattle.grid.specs.Query.{at, valueAnswer};
+ghost use Rattle.grid.specs.Query.{at, valueAnswer, markAnswer};
 ghost use Rattle.grid.specs.Batch.{interpOutcome, interpBuffer};
 ghost use Rattle.regular_query.specs.Grid.{gridOf, AllPremises};
+ghost use Rattle.guarantees.specs.Marked.{UnmarkedAtNode};
 ghost use Rattle.guarantees.specs.Statements.{AnswersOf, BuffersOf, HeldEdge, HeldInBatch, OwedAlone, OwedInBatch};
 use guarantees::TwoTables;
-use multicubic::Answer;
 use multicubic::Axis;
 use multicubic::EdgeMode;
+use multicubic::MarkedAnswer;
 use multicubic::Outcome;
 
 // A query asked alone: `interp_one` and `interp_one_grad` on both tables.
@@ -27,12 +28,12 @@ pub fn alone(
     ensures { λ r. ⌜ OwedAlone (AllPremises (take «axis_count» axes))
         (gridOf binary64 «axis_count» axes (now (vals .entry)) mode)
         (gridOf binary64 «axis_count» axes (now («other_vals» .entry)) «other_mode»)
-        (at x) (asAnswer (r .value)) (asAnswer (r .«other_value»))
-        (r .gradient .outcome) (r .«other_gradient» .outcome) (r .gradient .gradient) (r .«other_gradient» .gradient) ⌝ }
+        (at x) (asAnswer (r .value .answer)) (asAnswer (r .«other_value» .answer))
+        (r .gradient .answer .outcome) (r .«other_gradient» .answer .outcome) (r .gradient .answer .gradient) (r .«other_gradient» .answer .gradient) ⌝ }
     ensures { λ r. ⌜ AnswersOf binary64 (gridOf binary64 «axis_count» axes (now (vals .entry)) mode) (at x)
-        (asAnswer (r .value)) (r .gradient .outcome) (r .gradient .gradient) ⌝ }
+        (asAnswer (r .value .answer)) (r .gradient .answer .outcome) (r .gradient .answer .gradient) ⌝ }
     ensures { λ r. ⌜ AnswersOf binary64 (gridOf binary64 «axis_count» axes (now («other_vals» .entry)) «other_mode») (at x)
-        (asAnswer (r .«other_value»)) (r .«other_gradient» .outcome) (r .«other_gradient» .gradient) ⌝ }
+        (asAnswer (r .«other_value» .answer)) (r .«other_gradient» .answer .outcome) (r .«other_gradient» .answer .gradient) ⌝ }
 {
     let value = regular::interp_one(axis_count, axes, vals, mode, x);
     let gradient = regular::interp_one_grad(axis_count, axes, vals, mode, x);
@@ -87,10 +88,10 @@ pub fn in_batch(
 }
 
 // Clause 8.6: a query past the ends, or at nodes, of a grid that holds its edges.
-pub fn held_edge(axis_count: usize, axes: [Axis; 4], vals: &[f64], x: [f64; 4]) -> Answer
+pub fn held_edge(axis_count: usize, axes: [Axis; 4], vals: &[f64], x: [f64; 4]) -> MarkedAnswer
     ensures { λ r. ⌜ HeldEdge (AllPremises (take «axis_count» axes))
-        (gridOf binary64 «axis_count» axes (now (vals .entry)) Held) (at x) (asAnswer r) ⌝ }
-    ensures { λ r. ⌜ asAnswer r ≡ valueAnswer binary64 (gridOf binary64 «axis_count» axes (now (vals .entry)) Held) (at x) ⌝ }
+        (gridOf binary64 «axis_count» axes (now (vals .entry)) Held) (at x) (asAnswer (r .answer)) ⌝ }
+    ensures { λ r. ⌜ asAnswer (r .answer) ≡ valueAnswer binary64 (gridOf binary64 «axis_count» axes (now (vals .entry)) Held) (at x) ⌝ }
 {
     regular::interp_one(axis_count, axes, vals, EdgeMode::Held, x)
 }
@@ -111,4 +112,19 @@ pub fn held_in_batch(
         (now (queries .entry)) (now (out .entry)) ⌝ }
 {
     regular_batch::interp(axis_count, axes, vals, EdgeMode::Held, queries, out)
+}
+
+// Clause 8.8: a query at a node has no mark on any axis.
+pub fn unmarked_at_node(
+    axis_count: usize,
+    axes: [Axis; 4],
+    vals: &[f64],
+    mode: EdgeMode,
+    x: [f64; 4],
+) -> MarkedAnswer
+    ensures { λ r. ⌜ UnmarkedAtNode (AllPremises (take «axis_count» axes))
+        (gridOf binary64 «axis_count» axes (now (vals .entry)) mode) (at x) (r .marks) ⌝ }
+    ensures { λ r. ⌜ r .marks ≡ markAnswer (gridOf binary64 «axis_count» axes (now (vals .entry)) mode) (at x) ⌝ }
+{
+    regular::interp_one(axis_count, axes, vals, mode, x)
 }

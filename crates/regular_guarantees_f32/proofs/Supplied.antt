@@ -8,11 +8,12 @@ use Rattle.multicubic.specs.declared.EdgeMode.{EdgeMode}
 use Rattle.multicubic.specs.declared.EdgeMode.the-variants.{Held}
 use Rattle.multicubic_f32.specs.declared.AxisF32.{AxisF32}
 use Rattle.multicubic_f32.specs.Same.{asAxis, asAxes}
-use Rattle.grid.specs.Query.{at}
+use Rattle.grid.specs.Query.{at, markAnswer}
 use Rattle.grid.specs.Edges.{AtClamped}
 use Rattle.grid.proofs.AtNodes.{AtEach}
 use Rattle.regular_query.specs.Grid.{gridOf, AllPremises}
 use Rattle.guarantees.specs.Statements.{IsAccepted}
+use Rattle.guarantees.specs.Marked.{UnmarkedAtNode}
 use Rattle.guarantees.proofs.Typing.{Typed}
 use Rattle.guarantees.proofs.Nodes.{Supplied}
 use Rattle.guarantees.proofs.Blocks.{Counted}
@@ -29,3 +30,7 @@ pub clamped : (f : Format) (n : ℕ) (axes : List AxisF32) (vals : List Float) (
     → IsAccepted (gridOf f n (asAxes axes) vals Held) → AllPremises (take n (asAxes axes)) → (is : List ℕ)
     → AtClamped 0 (gridOf f n (asAxes axes) vals Held .axes) is query → AtEach 0 (gridOf f n (asAxes axes) vals Held .axes) is query
 clamped f n axes vals = Reg.clamped f n (asAxes axes) vals
+
+pub at-nodes : (f : Format) (n : ℕ) (axes : List AxisF32) (vals : List Float) (mode : EdgeMode) (query : ℕ → Float)
+    → UnmarkedAtNode (AllPremises (take n (asAxes axes))) (gridOf f n (asAxes axes) vals mode) query (markAnswer (gridOf f n (asAxes axes) vals mode) query)
+at-nodes f n axes vals = Reg.at-nodes f n (asAxes axes) vals

@@ -4,16 +4,17 @@ ghost use mathlib.Core.Path.{_≡_};
 ghost use lib.ListN.{take};
 ghost use lib.Ieee.{binary32};
 ghost use Rattle.multicubic.specs.declared.EdgeMode.the-variants.{Held};
-ghost use Rattle.grid.specs.Query.{at, valueAnswer};
+ghost use Rattle.grid.specs.Query.{at, valueAnswer, markAnswer};
 ghost use Rattle.grid.specs.Batch.{interpOutcome, interpBuffer};
 ghost use Rattle.regular_query.specs.Grid.{gridOf, AllPremises};
+ghost use Rattle.guarantees.specs.Marked.{UnmarkedAtNode};
 ghost use Rattle.guarantees.specs.Statements.{AnswersOf, BuffersOf, HeldEdge, HeldInBatch, OwedAlone, OwedInBatch};
 ghost use Rattle.multicubic_f32.specs.Same.{asAnswer, asAxes};
 use guarantees_f32::TwoTablesF32;
 use multicubic::EdgeMode;
 use multicubic::Outcome;
-use multicubic_f32::AnswerF32;
 use multicubic_f32::AxisF32;
+use multicubic_f32::MarkedAnswerF32;
 
 // A query asked alone: `interp_one` and `interp_one_grad` on both tables.
 pub fn alone(
@@ -28,12 +29,12 @@ pub fn alone(
     ensures { λ r. ⌜ OwedAlone (AllPremises (take «axis_count» (asAxes axes)))
         (gridOf binary32 «axis_count» (asAxes axes) (now (vals .entry)) mode)
         (gridOf binary32 «axis_count» (asAxes axes) (now («other_vals» .entry)) «other_mode»)
-        (at x) (asAnswer (r .value)) (asAnswer (r .«other_value»))
-        (r .gradient .outcome) (r .«other_gradient» .outcome) (r .gradient .gradient) (r .«other_gradient» .gradient) ⌝ }
+        (at x) (asAnswer (r .value .answer)) (asAnswer (r .«other_value» .answer))
+        (r .gradient .answer .outcome) (r .«other_gradient» .answer .outcome) (r .gradient .answer .gradient) (r .«other_gradient» .answer .gradient) ⌝ }
     ensures { λ r. ⌜ AnswersOf binary32 (gridOf binary32 «axis_count» (asAxes axes) (now (vals .entry)) mode) (at x)
-        (asAnswer (r .value)) (r .gradient .outcome) (r .gradient .gradient) ⌝ }
+        (asAnswer (r .value .answer)) (r .gradient .answer .outcome) (r .gradient .answer .gradient) ⌝ }
     ensures { λ r. ⌜ AnswersOf binary32 (gridOf binary32 «axis_count» (asAxes axes) (now («other_vals» .entry)) «other_mode») (at x)
-        (asAnswer (r .«other_value»)) (r .«other_gradient» .outcome) (r .«other_gradient» .gradient) ⌝ }
+        (asAnswer (r .«other_value» .answer)) (r .«other_gradient» .answer .outcome) (r .«other_gradient» .answer .gradient) ⌝ }
 {
     let value = regular_f32::interp_one(axis_count, axes, vals, mode, x);
     let gradient = regular_f32::interp_one_grad(axis_count, axes, vals, mode, x);
@@ -88,10 +89,15 @@ pub fn in_batch(
 }
 
 // Clause 8.6: a query past the ends, or at nodes, of a grid that holds its edges.
-pub fn held_edge(axis_count: usize, axes: [AxisF32; 4], vals: &[f32], x: [f32; 4]) -> AnswerF32
+pub fn held_edge(
+    axis_count: usize,
+    axes: [AxisF32; 4],
+    vals: &[f32],
+    x: [f32; 4],
+) -> MarkedAnswerF32
     ensures { λ r. ⌜ HeldEdge (AllPremises (take «axis_count» (asAxes axes)))
-        (gridOf binary32 «axis_count» (asAxes axes) (now (vals .entry)) Held) (at x) (asAnswer r) ⌝ }
-    ensures { λ r. ⌜ asAnswer r ≡ valueAnswer binary32 (gridOf binary32 «axis_count» (asAxes axes) (now (vals .entry)) Held) (at x) ⌝ }
+        (gridOf binary32 «axis_count» (asAxes axes) (now (vals .entry)) Held) (at x) (asAnswer (r .answer)) ⌝ }
+    ensures { λ r. ⌜ asAnswer (r .answer) ≡ valueAnswer binary32 (gridOf binary32 «axis_count» (asAxes axes) (now (vals .entry)) Held) (at x) ⌝ }
 {
     regular_f32::interp_one(axis_count, axes, vals, EdgeMode::Held, x)
 }
@@ -112,4 +118,19 @@ pub fn held_in_batch(
         (now (queries .entry)) (now (out .entry)) ⌝ }
 {
     regular_batch_f32::interp(axis_count, axes, vals, EdgeMode::Held, queries, out)
+}
+
+// Clause 8.8: a query at a node has no mark on any axis.
+pub fn unmarked_at_node(
+    axis_count: usize,
+    axes: [AxisF32; 4],
+    vals: &[f32],
+    mode: EdgeMode,
+    x: [f32; 4],
+) -> MarkedAnswerF32
+    ensures { λ r. ⌜ UnmarkedAtNode (AllPremises (take «axis_count» (asAxes axes)))
+        (gridOf binary32 «axis_count» (asAxes axes) (now (vals .entry)) mode) (at x) (r .marks) ⌝ }
+    ensures { λ r. ⌜ r .marks ≡ markAnswer (gridOf binary32 «axis_count» (asAxes axes) (now (vals .entry)) mode) (at x) ⌝ }
+{
+    regular_f32::interp_one(axis_count, axes, vals, mode, x)
 }

@@ -4,19 +4,21 @@ ghost use mathlib.Core.Path.{_≡_};
 ghost use lib.ListN.{length};
 ghost use lib.Ieee.{binary64};
 ghost use Rattle.multicubic.specs.Same.{asAnswer};
-ghost use Rattle.grid.specs.Query.{at, valueAnswer};
 ghost use Rattle.slices.specs.Slices.{lower};
 ghost use Rattle.slices.specs.Lent.{lent};
-ghost use Rattle.slices.specs.Internal.{PlacesOn, GradientOn, InterpOn, InterpGradOn};
+ghost use Rattle.slices.specs.Internal.{PlacesOn, ValueOn, GradientOn, InterpOn, InterpGradOn};
 ghost use Rattle.regular_query.specs.Grid.{checksOf, gridOf};
-use multicubic::Answer;
 use multicubic::Axis;
 use multicubic::EdgeMode;
 use multicubic::GradientAnswer;
+use multicubic::MarkedAnswer;
+use multicubic::MarkedGradient;
+use multicubic::MarkedPlaces;
 use multicubic::Outcome;
 use multicubic::PlaceAnswer;
 use multicubic::answered;
 use multicubic::nowhere;
+use multicubic::unmarked;
 use slices::lower;
 
 // The refusal of the slices, or the grid's own.
@@ -34,13 +36,16 @@ pub fn get_loc(
     vals: &[f64],
     mode: EdgeMode,
     x: [f64; 4],
-) -> PlaceAnswer
-    ensures { λ r. ⌜ PlacesOn (lent slices (gridOf binary64 «axis_count» axes (now (vals .entry)) mode)) x (r .outcome) (r .places) ⌝ }
+) -> MarkedPlaces
+    ensures { λ r. ⌜ PlacesOn (lent slices (gridOf binary64 «axis_count» axes (now (vals .entry)) mode)) x (r .answer .outcome) (r .answer .places) (r .marks) ⌝ }
 {
     match slices {
-        Outcome::Refused { .. } => PlaceAnswer {
-            outcome: new(slices, axis_count, axes, vals),
-            places: nowhere(),
+        Outcome::Refused { .. } => MarkedPlaces {
+            answer: PlaceAnswer {
+                outcome: new(slices, axis_count, axes, vals),
+                places: nowhere(),
+            },
+            marks: unmarked(),
         },
         Outcome::Accepted => regular::get_loc(axis_count, axes, vals, mode, x),
     }
@@ -54,11 +59,14 @@ pub fn interp_one(
     vals: &[f64],
     mode: EdgeMode,
     x: [f64; 4],
-) -> Answer
-    ensures { λ r. ⌜ asAnswer r ≡ valueAnswer binary64 (lent slices (gridOf binary64 «axis_count» axes (now (vals .entry)) mode)) (at x) ⌝ }
+) -> MarkedAnswer
+    ensures { λ r. ⌜ ValueOn binary64 (lent slices (gridOf binary64 «axis_count» axes (now (vals .entry)) mode)) x (asAnswer (r .answer)) (r .marks) ⌝ }
 {
     match slices {
-        Outcome::Refused { .. } => answered(new(slices, axis_count, axes, vals), 0.0),
+        Outcome::Refused { .. } => MarkedAnswer {
+            answer: answered(new(slices, axis_count, axes, vals), 0.0),
+            marks: unmarked(),
+        },
         Outcome::Accepted => regular::interp_one(axis_count, axes, vals, mode, x),
     }
 }
@@ -71,13 +79,16 @@ pub fn interp_one_grad(
     vals: &[f64],
     mode: EdgeMode,
     x: [f64; 4],
-) -> GradientAnswer
-    ensures { λ r. ⌜ GradientOn binary64 (lent slices (gridOf binary64 «axis_count» axes (now (vals .entry)) mode)) x (r .outcome) (r .gradient) ⌝ }
+) -> MarkedGradient
+    ensures { λ r. ⌜ GradientOn binary64 (lent slices (gridOf binary64 «axis_count» axes (now (vals .entry)) mode)) x (r .answer .outcome) (r .answer .gradient) (r .marks) ⌝ }
 {
     match slices {
-        Outcome::Refused { .. } => GradientAnswer {
-            outcome: new(slices, axis_count, axes, vals),
-            gradient: [0.0, 0.0, 0.0, 0.0],
+        Outcome::Refused { .. } => MarkedGradient {
+            answer: GradientAnswer {
+                outcome: new(slices, axis_count, axes, vals),
+                gradient: [0.0, 0.0, 0.0, 0.0],
+            },
+            marks: unmarked(),
         },
         Outcome::Accepted => regular::interp_one_grad(axis_count, axes, vals, mode, x),
     }

@@ -4,19 +4,21 @@
 ghost use mathlib.Core.Path.{_≡_};
 ghost use lib.ListN.{length};
 ghost use lib.Ieee.{binary32};
-ghost use Rattle.grid.specs.Query.{at, valueAnswer};
 ghost use Rattle.slices.specs.Slices.{lower};
 ghost use Rattle.slices.specs.Lent.{lent};
-ghost use Rattle.slices.specs.Internal.{PlacesOn, GradientOn, InterpOn, InterpGradOn};
+ghost use Rattle.slices.specs.Internal.{PlacesOn, ValueOn, GradientOn, InterpOn, InterpGradOn};
 ghost use Rattle.regular_query.specs.Grid.{checksOf, gridOf};
 ghost use Rattle.multicubic_f32.specs.Same.{asAnswer, asAxes};
 use multicubic::EdgeMode;
+use multicubic::MarkedPlaces;
 use multicubic::Outcome;
 use multicubic::PlaceAnswer;
 use multicubic::nowhere;
-use multicubic_f32::AnswerF32;
+use multicubic::unmarked;
 use multicubic_f32::AxisF32;
 use multicubic_f32::GradientAnswerF32;
+use multicubic_f32::MarkedAnswerF32;
+use multicubic_f32::MarkedGradientF32;
 use multicubic_f32::answered;
 use slices::lower;
 
@@ -35,13 +37,16 @@ pub fn get_loc(
     vals: &[f32],
     mode: EdgeMode,
     x: [f32; 4],
-) -> PlaceAnswer
-    ensures { λ r. ⌜ PlacesOn (lent slices (gridOf binary32 «axis_count» (asAxes axes) (now (vals .entry)) mode)) x (r .outcome) (r .places) ⌝ }
+) -> MarkedPlaces
+    ensures { λ r. ⌜ PlacesOn (lent slices (gridOf binary32 «axis_count» (asAxes axes) (now (vals .entry)) mode)) x (r .answer .outcome) (r .answer .places) (r .marks) ⌝ }
 {
     match slices {
-        Outcome::Refused { .. } => PlaceAnswer {
-            outcome: new(slices, axis_count, axes, vals),
-            places: nowhere(),
+        Outcome::Refused { .. } => MarkedPlaces {
+            answer: PlaceAnswer {
+                outcome: new(slices, axis_count, axes, vals),
+                places: nowhere(),
+            },
+            marks: unmarked(),
         },
         Outcome::Accepted => regular_f32::get_loc(axis_count, axes, vals, mode, x),
     }
@@ -55,11 +60,14 @@ pub fn interp_one(
     vals: &[f32],
     mode: EdgeMode,
     x: [f32; 4],
-) -> AnswerF32
-    ensures { λ r. ⌜ asAnswer r ≡ valueAnswer binary32 (lent slices (gridOf binary32 «axis_count» (asAxes axes) (now (vals .entry)) mode)) (at x) ⌝ }
+) -> MarkedAnswerF32
+    ensures { λ r. ⌜ ValueOn binary32 (lent slices (gridOf binary32 «axis_count» (asAxes axes) (now (vals .entry)) mode)) x (asAnswer (r .answer)) (r .marks) ⌝ }
 {
     match slices {
-        Outcome::Refused { .. } => answered(new(slices, axis_count, axes, vals), 0.0),
+        Outcome::Refused { .. } => MarkedAnswerF32 {
+            answer: answered(new(slices, axis_count, axes, vals), 0.0),
+            marks: unmarked(),
+        },
         Outcome::Accepted => regular_f32::interp_one(axis_count, axes, vals, mode, x),
     }
 }
@@ -72,13 +80,16 @@ pub fn interp_one_grad(
     vals: &[f32],
     mode: EdgeMode,
     x: [f32; 4],
-) -> GradientAnswerF32
-    ensures { λ r. ⌜ GradientOn binary32 (lent slices (gridOf binary32 «axis_count» (asAxes axes) (now (vals .entry)) mode)) x (r .outcome) (r .gradient) ⌝ }
+) -> MarkedGradientF32
+    ensures { λ r. ⌜ GradientOn binary32 (lent slices (gridOf binary32 «axis_count» (asAxes axes) (now (vals .entry)) mode)) x (r .answer .outcome) (r .answer .gradient) (r .marks) ⌝ }
 {
     match slices {
-        Outcome::Refused { .. } => GradientAnswerF32 {
-            outcome: new(slices, axis_count, axes, vals),
-            gradient: [0.0, 0.0, 0.0, 0.0],
+        Outcome::Refused { .. } => MarkedGradientF32 {
+            answer: GradientAnswerF32 {
+                outcome: new(slices, axis_count, axes, vals),
+                gradient: [0.0, 0.0, 0.0, 0.0],
+            },
+            marks: unmarked(),
         },
         Outcome::Accepted => regular_f32::interp_one_grad(axis_count, axes, vals, mode, x),
     }

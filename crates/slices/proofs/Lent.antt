@@ -9,12 +9,12 @@ use Rattle.ieee.specs.Numbers.{zero}
 use Rattle.multicubic.specs.declared.Outcome.{Outcome}
 use Rattle.multicubic.specs.declared.Outcome.the-variants.{Accepted, Refused}
 use Rattle.multicubic.specs.Answers.{answered}
-use Rattle.multicubic.specs.Internal.{fourNowhere}
-use Rattle.grid.specs.Query.{Grid, at, outcomeOf, valueAnswer, gradientAnswer, placeAnswer}
+use Rattle.multicubic.specs.Internal.{fourNowhere, fourUnmarked}
+use Rattle.grid.specs.Query.{Grid, at, outcomeOf, valueAnswer, gradientAnswer, placeAnswer, markAnswer}
 use Rattle.grid.specs.Batch.{interpOutcome, interpBuffer, gradOutcome, gradBuffer}
 use Rattle.slices.specs.Slices.{lower}
 use Rattle.slices.specs.Lent.{lent}
-use Rattle.slices.specs.Internal.{PlacesOn, GradientOn, InterpOn, InterpGradOn}
+use Rattle.slices.specs.Internal.{PlacesOn, ValueOn, GradientOn, InterpOn, InterpGradOn}
 
 pub whole : {slices : Outcome} (g : Grid) → slices ≡ Accepted → g ≡ lent slices g
 whole g e = λ i. lent (sym e i) g
@@ -43,14 +43,17 @@ module _ {o slices : Outcome} {k q a : ℕ} (g : Grid) (p : o ≡ lower slices (
     outcome : o ≡ outcomeOf (lent slices g) (at x)
     outcome = refused (λ g. outcomeOf g (at x)) (λ o. o) (λ number query axis. refl)
 
-    pub refused-value : (f : Format) (value : Float) → answered o value ≡ valueAnswer f (lent slices g) (at x)
-    refused-value f value = refused (λ g. valueAnswer f g (at x)) (λ o. answered o value) (λ number query axis. refl)
+    marks : fourUnmarked ≡ markAnswer (lent slices g) (at x)
+    marks = refused (λ g. markAnswer g (at x)) (λ o. fourUnmarked) (λ number query axis. refl)
 
-    pub refused-gradient : (f : Format) → GradientOn f (lent slices g) x o (zero ∷ zero ∷ zero ∷ zero ∷ [])
-    refused-gradient f = (outcome, refused (λ g. gradientAnswer f g (at x)) (λ o. zero ∷ zero ∷ zero ∷ zero ∷ []) (λ number query axis. refl))
+    pub refused-value : (f : Format) (value : Float) → ValueOn f (lent slices g) x (answered o value) fourUnmarked
+    refused-value f value = (refused (λ g. valueAnswer f g (at x)) (λ o. answered o value) (λ number query axis. refl), marks)
 
-    pub refused-places : PlacesOn (lent slices g) x o fourNowhere
-    refused-places = (outcome, refused (λ g. placeAnswer g (at x)) (λ o. fourNowhere) (λ number query axis. refl))
+    pub refused-gradient : (f : Format) → GradientOn f (lent slices g) x o (zero ∷ zero ∷ zero ∷ zero ∷ []) fourUnmarked
+    refused-gradient f = (outcome, refused (λ g. gradientAnswer f g (at x)) (λ o. zero ∷ zero ∷ zero ∷ zero ∷ []) (λ number query axis. refl), marks)
+
+    pub refused-places : PlacesOn (lent slices g) x o fourNowhere fourUnmarked
+    refused-places = (outcome, refused (λ g. placeAnswer g (at x)) (λ o. fourNowhere) (λ number query axis. refl), marks)
 
   module _ (f : Format) (queries out : List Float) where
     pub refused-interp : InterpOn f (lent slices g) queries out o out

@@ -21,6 +21,6 @@ lent slices g = record { checked = lower slices (g .checked); axis-count = g .ax
 abbrev pub lentTo : Gathered → ℕ → Grid
 lentTo s refusal = lent (slicesOf (s .grid .axis-count) (s .shortest) refusal) (s .grid)
 
--- to a single query, by its length, that of `refusal`, the room that is lent and the entries that are needed
-abbrev pub lentToQuery : Gathered → ℕ → ℕ → ℕ → ℕ → Grid
-lentToQuery s query refusal room need = lent (querySlicesOf (s .grid .axis-count) (s .shortest) query refusal room need) (s .grid)
+-- to a single query, by its length, that of `refusal`, the room that is lent, the entries that are needed and the length of `marks`
+abbrev pub lentToQuery : Gathered → ℕ → ℕ → ℕ → ℕ → ℕ → Grid
+lentToQuery s query refusal room need marks = lent (querySlicesOf (s .grid .axis-count) (s .shortest) query refusal room need marks) (s .grid)

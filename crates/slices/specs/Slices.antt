@@ -39,9 +39,10 @@ namedBy mode shortest = cond (ltb 2 mode) 0 shortest
 unfoldable pub slicesOf : ℕ → ℕ → ℕ → Outcome
 slicesOf n shortest refusal = refuse (ltb shortest n) 3 then refuse (ltb refusal 2) 7
 
--- those of a single query: its coordinates are read too, and 7 where what is to be written has less room than it needs
-unfoldable pub querySlicesOf : ℕ → ℕ → ℕ → ℕ → ℕ → ℕ → Outcome
-querySlicesOf n shortest query refusal room need = slicesOf n (min shortest query) refusal then refuse (ltb room need) 7
+-- those of a single query: its coordinates are read too, and 7 where what is to be written has less room than it needs, or the marks less than one
+-- entry for each axis
+unfoldable pub querySlicesOf : ℕ → ℕ → ℕ → ℕ → ℕ → ℕ → ℕ → Outcome
+querySlicesOf n shortest query refusal room need marks = slicesOf n (min shortest query) refusal then refuse (ltb room need) 7 then refuse (ltb marks n) 7
 
 -- of the slices' refusal and the grid's own the one with the lower number, since the checks run in the order of their numbers
 abbrev pub lower : Outcome → Outcome → Outcome

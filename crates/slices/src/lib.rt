@@ -122,7 +122,7 @@ pub fn check_slices(axis_count: usize, shortest: usize, refusal: usize) -> Outco
     Outcome::Accepted
 }
 
-// Those of a single query: of what is to be written `room` entries are lent, and `need` are needed.
+// Those of a single query: of what is to be written `room` entries are lent, and `need` are needed; and a mark is written for each axis.
 pub fn check_query_slices(
     axis_count: usize,
     shortest: usize,
@@ -130,14 +130,18 @@ pub fn check_query_slices(
     refusal: usize,
     room: usize,
     need: usize,
+    marks: usize,
 ) -> Outcome
-    ensures { λ r. ⌜ r ≡ querySlicesOf «axis_count» shortest query refusal room need ⌝ }
+    ensures { λ r. ⌜ r ≡ querySlicesOf «axis_count» shortest query refusal room need marks ⌝ }
 {
     let slices = check_slices(axis_count, least(shortest, query), refusal);
     match slices {
         Outcome::Refused { .. } => slices,
         Outcome::Accepted => {
             if room < need {
+                return refused(7);
+            }
+            if marks < axis_count {
                 return refused(7);
             }
             slices

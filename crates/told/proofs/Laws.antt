@@ -6,9 +6,10 @@ use native.Mathlib.Numerals.{add-one}
 use native.Mathlib.Omega.{arith, min-cases}
 use lib.ListN.{length, getD, take, set}
 use lib.Seq.{take-all}
+use Rattle.multicubic.specs.declared.Marks.{Marks}
 use Rattle.multicubic.specs.declared.Outcome.{Outcome}
 use Rattle.multicubic.specs.Answers.{numberOf}
-use Rattle.told.specs.Told.{over, told, Leaves, leaves}
+use Rattle.told.specs.Told.{over, told, withMarks, Leaves, leaves, leavesMarked}
 
 -- the first i of some are written, and now entry i is
 over-suc : {A : Type 0} (d : A) (xs old : List A) (i : ℕ) → i < length xs → set (over (take i xs) old) i (getD xs i d) ≡ over (take (suc i) xs) old
@@ -32,3 +33,7 @@ module _ {A : Type 0} (xs old : List A) where
 -- what is told of an outcome, and what is written
 pub left-by : {W : Type 0} {number : ℕ} {refusal : List ℕ} {written answer : W} {o outcome : Outcome} (before : List ℕ) → number ≡ numberOf o → refusal ≡ told o before → o ≡ outcome → written ≡ answer → _≡_ {A = Leaves W} (record { number = number; refusal = refusal; written = written }) (leaves outcome before answer)
 left-by before p q e w = λ i. record { number = (p ∙ ap numberOf e) i; refusal = (q ∙ ap (λ o. told o before) e) i; written = w i }
+
+-- and the marks beside it
+pub left-marked : {W : Type 0} {number : ℕ} {refusal marks : List ℕ} {written answer : W} {o outcome : Outcome} (before : List ℕ) (n : ℕ) (pairs : List Marks) (old : List ℕ) → number ≡ numberOf o → refusal ≡ told o before → o ≡ outcome → written ≡ answer → marks ≡ withMarks o n pairs old → _≡_ {A = Leaves (W × List ℕ)} (record { number = number; refusal = refusal; written = (written, marks) }) (leavesMarked outcome before answer n pairs old)
+left-marked before n pairs old p q e w m = λ i. record { number = (p ∙ ap numberOf e) i; refusal = (q ∙ ap (λ o. told o before) e) i; written = (w i, (m ∙ ap (λ o. withMarks o n pairs old) e) i) }

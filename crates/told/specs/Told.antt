@@ -7,6 +7,7 @@ use lib.ListN.{length, take, set}
 use lib.Ieee.{Float}
 use Rattle.multicubic.specs.declared.Answer.{Answer}
 use Rattle.multicubic.specs.declared.Answer.the-variants as Ans
+use Rattle.multicubic.specs.declared.Marks.{Marks}
 use Rattle.multicubic.specs.declared.Outcome.{Outcome}
 use Rattle.multicubic.specs.declared.Outcome.the-variants.{Accepted, Refused}
 use Rattle.multicubic.specs.declared.Place.{Place}
@@ -54,6 +55,16 @@ classNumbers places = map (λ (p : Place). classNumber (p .class)) places
 abbrev pub withPlaces : Outcome → ℕ → List Place → List ℕ → List ℕ → List ℕ × List ℕ
 withPlaces outcome n places origins classes = (withFirst outcome n (originsAt places) origins, withFirst outcome n (classNumbers places) classes)
 
+-- the numbers of marks: 1 below the first entry, 2 above the last, 0 neither
+abbrev pub markNumber : Marks → ℕ
+markNumber m = cond (m .below) 1 (cond (m .above) 2 0)
+
+abbrev pub markNumbers : List Marks → List ℕ
+markNumbers pairs = map markNumber pairs
+
+abbrev pub withMarks : Outcome → ℕ → List Marks → List ℕ → List ℕ
+withMarks outcome n pairs before = withFirst outcome n (markNumbers pairs) before
+
 -- what a call leaves: its number, the slice `refusal` and what is written besides
 pub record Leaves (W : Type 0) : Type 0 where
   pub number : ℕ
@@ -62,3 +73,7 @@ pub record Leaves (W : Type 0) : Type 0 where
 
 abbrev pub leaves : {W : Type 0} → Outcome → List ℕ → W → Leaves W
 leaves outcome refusal written = record { number = numberOf outcome; refusal = told outcome refusal; written = written }
+
+-- and beside it, of a single query, the marks: as many as there are axes
+abbrev pub leavesMarked : {W : Type 0} → Outcome → List ℕ → W → ℕ → List Marks → List ℕ → Leaves (W × List ℕ)
+leavesMarked outcome refusal written n pairs marks = leaves outcome refusal (written, withMarks outcome n pairs marks)

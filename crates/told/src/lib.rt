@@ -4,12 +4,14 @@ ghost use Prim.Native.Nat.{min};
 ghost use lib.ListN.{set};
 ghost use Rattle.multicubic.specs.Answers.{numberOf, answerOutcome};
 ghost use Rattle.multicubic.specs.Same.{asAnswer};
-ghost use Rattle.told.specs.Told.{leaves, told, withValue, entriesOf, withFirst, withPlaces, originsAt, classNumber, classNumbers};
+ghost use Rattle.told.specs.Told.{leavesMarked, told, withValue, entriesOf, withFirst, withPlaces, originsAt, classNumber, classNumbers, markNumber, withMarks};
 use multicubic::Answer;
-use multicubic::GradientAnswer;
+use multicubic::MarkedAnswer;
+use multicubic::MarkedGradient;
+use multicubic::MarkedPlaces;
+use multicubic::Marks;
 use multicubic::Outcome;
 use multicubic::Place;
-use multicubic::PlaceAnswer;
 use multicubic::Saturation;
 use multicubic::outcome_of;
 use slices::least;
@@ -70,20 +72,35 @@ fn put_float(out: &mut [f64], i: usize, x: f64)
     }
 }
 
-// Tells a value's answer, and writes the value where there is one.
-pub fn tell_value(answer: Answer, refusal: &mut [usize], value: &mut [f64]) -> u8
+// Writes a value, where there is one.
+fn put_value(answer: Answer, value: &mut [f64])
+    ensures { λ _. ⌜ now (value .exit) ≡ withValue (asAnswer answer) (now (value .entry)) ⌝ }
+{
+    if let Answer::Value(v) = answer {
+        put_float(value, 0, v);
+    }
+}
+
+// Tells a value's answer, and writes the value and its first n marks where there is one.
+pub fn tell_value(
+    answer: MarkedAnswer,
+    n: usize,
+    refusal: &mut [usize],
+    value: &mut [f64],
+    marks: &mut [u8],
+) -> u8
     ensures { λ r. ⌜
-        record { number = r; refusal = now (refusal .exit); written = now (value .exit) }
-        ≡ leaves (answerOutcome (asAnswer answer)) (now (refusal .entry)) (withValue (asAnswer answer) (now (value .entry)))
+        record { number = r; refusal = now (refusal .exit); written = (now (value .exit), now (marks .exit)) }
+        ≡ leavesMarked (answerOutcome (asAnswer (answer .answer))) (now (refusal .entry))
+        (withValue (asAnswer (answer .answer)) (now (value .entry))) n (answer .marks) (now (marks .entry))
         ⌝ }
 {
-    match answer {
-        Answer::Refused { .. } => tell(outcome_of(answer), refusal),
-        Answer::Value(v) => {
-            put_float(value, 0, v);
-            tell(Outcome::Accepted, refusal)
-        }
-    }
+    let found = answer.answer;
+    let outcome = outcome_of(found);
+    let pairs = answer.marks;
+    put_value(found, value);
+    put_marks(outcome, n, pairs, marks);
+    tell(outcome, refusal)
 }
 
 // How many of four entries are written.
@@ -143,39 +160,75 @@ fn class_number(class: Saturation) -> u8
     }
 }
 
-// Tells a gradient's answer, and writes its first n components where it is accepted.
+// The number of a pair of marks.
+fn mark_number(pair: Marks) -> u8
+    ensures { λ r. ⌜ r ≡ markNumber pair ⌝ }
+{
+    if pair.below {
+        return 1;
+    }
+    if pair.above {
+        return 2;
+    }
+    0
+}
+
+// Writes the first n marks, where the call is accepted.
+pub fn put_marks(outcome: Outcome, n: usize, pairs: [Marks; 4], marks: &mut [u8])
+    ensures { λ _. ⌜ now (marks .exit) ≡ withMarks outcome n pairs (now (marks .entry)) ⌝ }
+{
+    let stop = entries(outcome, n);
+    let mut i: usize = 0;
+    while i < stop {
+        let pair = pairs[i];
+        put_byte(marks, i, mark_number(pair));
+        i += 1;
+    }
+}
+
+// Tells a gradient's answer, and writes its first n components and marks where it is accepted.
 pub fn tell_gradient(
-    answer: GradientAnswer,
+    answer: MarkedGradient,
     n: usize,
     refusal: &mut [usize],
     gradient: &mut [f64],
+    marks: &mut [u8],
 ) -> u8
     ensures { λ r. ⌜
-        record { number = r; refusal = now (refusal .exit); written = now (gradient .exit) }
-        ≡ leaves (answer .outcome) (now (refusal .entry)) (withFirst (answer .outcome) n (answer .gradient) (now (gradient .entry)))
+        record { number = r; refusal = now (refusal .exit); written = (now (gradient .exit), now (marks .exit)) }
+        ≡ leavesMarked (answer .answer .outcome) (now (refusal .entry))
+        (withFirst (answer .answer .outcome) n (answer .answer .gradient) (now (gradient .entry))) n (answer .marks) (now (marks .entry))
         ⌝ }
 {
-    let outcome = answer.outcome;
-    let components = answer.gradient;
+    let found = answer.answer;
+    let outcome = found.outcome;
+    let components = found.gradient;
+    let pairs = answer.marks;
     put_gradient(outcome, n, components, gradient);
+    put_marks(outcome, n, pairs, marks);
     tell(outcome, refusal)
 }
 
-// Tells a place's answer, and writes its first n origins and classes where it is accepted.
+// Tells a place's answer, and writes its first n origins, classes and marks where it is accepted.
 pub fn tell_places(
-    answer: PlaceAnswer,
+    answer: MarkedPlaces,
     n: usize,
     refusal: &mut [usize],
     origins: &mut [usize],
     classes: &mut [u8],
+    marks: &mut [u8],
 ) -> u8
     ensures { λ r. ⌜
-        record { number = r; refusal = now (refusal .exit); written = (now (origins .exit), now (classes .exit)) }
-        ≡ leaves (answer .outcome) (now (refusal .entry)) (withPlaces (answer .outcome) n (answer .places) (now (origins .entry)) (now (classes .entry)))
+        record { number = r; refusal = now (refusal .exit); written = ((now (origins .exit), now (classes .exit)), now (marks .exit)) }
+        ≡ leavesMarked (answer .answer .outcome) (now (refusal .entry))
+        (withPlaces (answer .answer .outcome) n (answer .answer .places) (now (origins .entry)) (now (classes .entry))) n (answer .marks) (now (marks .entry))
         ⌝ }
 {
-    let outcome = answer.outcome;
-    let places = answer.places;
+    let found = answer.answer;
+    let outcome = found.outcome;
+    let places = found.places;
+    let pairs = answer.marks;
     put_places(outcome, n, places, origins, classes);
+    put_marks(outcome, n, pairs, marks);
     tell(outcome, refusal)
 }

@@ -33,7 +33,7 @@ use width::narrow;
 enum Call {
     Values,
     Gradients,
-    /// Query by query with interp_one. The Rust keeps its grid; ours checks it again at each call.
+    /// Query by query with interp_one. The Rust keeps its grid; ours checks it again at each call, and writes marks.
     One,
     /// The same, with the Rust making its grid by `new` each time.
     NewAndOne,
@@ -177,9 +177,10 @@ impl<T: Calls> Case<T> {
             Call::Values => assert_eq!(T::interp(g, &self.joined, &mut refusal, out), 0),
             Call::Gradients => assert_eq!(T::interp_grad(g, &self.joined, &mut refusal, out), 0),
             Call::One | Call::NewAndOne => {
+                let mut marks = [0; 3];
                 for (i, y) in out.iter_mut().enumerate() {
                     let x = black_box([self.columns[0][i], self.columns[1][i], self.columns[2][i]]);
-                    assert_eq!(T::interp_one(g, &x, &mut refusal, std::slice::from_mut(y)), 0);
+                    assert_eq!(T::interp_one(g, &x, &mut refusal, std::slice::from_mut(y), &mut marks), 0);
                 }
             }
         }
@@ -298,6 +299,7 @@ fn held_batches<T: Calls>(repeats: usize, queries: usize, outside: usize) {
 }
 
 fn run<T: Calls>(args: &[String]) {
+    assert_eq!(T::version(), ours::VERSION, "the archive is of another version than src/ours.rs");
     match args.first().map(|a| a.as_str()) {
         Some("list") => {
             let list = cases::<T>(1, 0);

@@ -6,6 +6,7 @@
 //! Each grid is then asked in held too, which the Rust does not have: a check on us, and no reference, by what
 //! src/held.rs works out. Its draws are its own, so that those of cubic and straight are the same with it and without.
 //! Mode numbers that are none are ours alone as well: they are refused with 3, and 1 and 2 come first.
+//! Marks are ours alone and are compared with nothing; only the entries that must stay as they were are looked at.
 //! Exit code 1 at the first difference, which is printed.
 #[path = "../cases.rs"]
 mod cases;
@@ -267,8 +268,8 @@ fn single<T: Calls>(
     let expected = bad.map_or((0, 0, 0), |axis| (8, 0, axis));
     let written = if bad.is_some() { 0 } else { n };
 
-    let (mut refusal, mut origins, mut classes) = (wholes(4), wholes(n + 2), bytes(n + 2));
-    let number = T::get_loc(g, x, refusal.part(), origins.part(), classes.part());
+    let (mut refusal, mut origins, mut classes, mut marks) = (wholes(4), wholes(n + 2), bytes(n + 2), bytes(n + 2));
+    let number = T::get_loc(g, x, refusal.part(), origins.part(), classes.part(), marks.part());
     outcome("get_loc", number, &refusal, expected)?;
     for d in 0..written {
         let (ours, expected) = ((origins.at(d), classes.at(d)), places[d].unwrap());
@@ -276,12 +277,12 @@ fn single<T: Calls>(
             return Err(format!("get_loc: query {i}, axis {d}: {ours:?}, expected {expected:?}"));
         }
     }
-    if !origins.rest_kept(written) || !classes.rest_kept(written) {
+    if !origins.rest_kept(written) || !classes.rest_kept(written) || !marks.rest_kept(written) {
         return Err("get_loc: an entry was written that must stay".into());
     }
 
-    let (mut refusal, mut value) = (wholes(4), floats(3));
-    let number = T::interp_one(g, x, refusal.part(), value.part());
+    let (mut refusal, mut value, mut marks) = (wholes(4), floats(3), bytes(n + 2));
+    let number = T::interp_one(g, x, refusal.part(), value.part(), marks.part());
     outcome("interp_one", number, &refusal, expected)?;
     let rust = reader.one(used);
     match rust {
@@ -289,12 +290,12 @@ fn single<T: Calls>(
         Err(_) if bad.is_some() => {}
         Err(message) => return Err(format!("the Rust's interp_one refuses: {message}")),
     }
-    if !value.rest_kept(written.min(1)) {
+    if !value.rest_kept(written.min(1)) || !marks.rest_kept(written) {
         return Err("interp_one: an entry was written that must stay".into());
     }
 
-    let (mut refusal, mut gradient) = (wholes(4), floats(n + 2));
-    let number = T::interp_one_grad(g, x, refusal.part(), gradient.part());
+    let (mut refusal, mut gradient, mut marks) = (wholes(4), floats(n + 2), bytes(n + 2));
+    let number = T::interp_one_grad(g, x, refusal.part(), gradient.part(), marks.part());
     outcome("interp_one_grad", number, &refusal, expected)?;
     let mut slopes = vec![T::zero(); n];
     match reader.one_grad(used, &mut slopes) {
@@ -305,7 +306,7 @@ fn single<T: Calls>(
         Err(_) if bad.is_some() => {}
         Err(message) => return Err(format!("the Rust's interp_one_grad refuses: {message}")),
     }
-    if !gradient.rest_kept(written) {
+    if !gradient.rest_kept(written) || !marks.rest_kept(written) {
         return Err("interp_one_grad: an entry was written that must stay".into());
     }
     k.single += 1;
@@ -373,18 +374,22 @@ fn refused<T: Calls>(g: &Grid<T>, message: Message, r: &mut Rng, k: &mut Counts)
     let mut refusal = wholes(4);
     let number = T::new(g, refusal.part());
     check("new", number, refusal, &[])?;
+    let mut marks = bytes(n);
     let (mut refusal, mut origins, mut classes) = (wholes(4), wholes(n), bytes(n));
-    let number = T::get_loc(g, &x[..n], refusal.part(), origins.part(), classes.part());
+    let number = T::get_loc(g, &x[..n], refusal.part(), origins.part(), classes.part(), marks.part());
     check("get_loc", number, refusal, &[])?;
     if !origins.rest_kept(0) || !classes.rest_kept(0) {
         return Err("get_loc: an entry was written on a refusal".into());
     }
     let (mut refusal, mut lent) = (wholes(4), floats(1));
-    let number = T::interp_one(g, &x[..n], refusal.part(), lent.part());
+    let number = T::interp_one(g, &x[..n], refusal.part(), lent.part(), marks.part());
     check("interp_one", number, refusal, &[&lent])?;
     let (mut refusal, mut lent) = (wholes(4), floats(n));
-    let number = T::interp_one_grad(g, &x[..n], refusal.part(), lent.part());
+    let number = T::interp_one_grad(g, &x[..n], refusal.part(), lent.part(), marks.part());
     check("interp_one_grad", number, refusal, &[&lent])?;
+    if !marks.rest_kept(0) {
+        return Err("a single call: a mark was written on a refusal".into());
+    }
     let (mut refusal, mut lent) = (wholes(4), floats(c));
     let number = T::interp(g, &x[..n * c], refusal.part(), lent.part());
     check("interp", number, refusal, &[&lent])?;
@@ -570,13 +575,14 @@ fn no_mode<T: Calls>(g: &Grid<T>, modes: impl Iterator<Item = u8>, r: &mut Rng, 
         let x: Vec<T> = (0..len(n)).map(|i| T::of(i as f64)).collect();
         let many: Vec<T> = (0..len(n * c)).map(|i| T::of(i as f64)).collect();
         let (mut origins, mut classes) = (wholes(len(n)), bytes(len(n)));
+        let mut marks = bytes(classes.len);
         let mut lent = [1, n, c, n * c].map(|fit| floats::<T>(len(fit)));
         for call in 0..5 {
             let mut refusal = wholes(r.pick(&[4, 4, 4, 2, 1, 0]));
             let (name, number) = match call {
-                0 => ("get_loc", T::get_loc(&g, &x, refusal.part(), origins.part(), classes.part())),
-                1 => ("interp_one", T::interp_one(&g, &x, refusal.part(), lent[0].part())),
-                2 => ("interp_one_grad", T::interp_one_grad(&g, &x, refusal.part(), lent[1].part())),
+                0 => ("get_loc", T::get_loc(&g, &x, refusal.part(), origins.part(), classes.part(), marks.part())),
+                1 => ("interp_one", T::interp_one(&g, &x, refusal.part(), lent[0].part(), marks.part())),
+                2 => ("interp_one_grad", T::interp_one_grad(&g, &x, refusal.part(), lent[1].part(), marks.part())),
                 3 => ("interp", T::interp(&g, &many, refusal.part(), lent[2].part())),
                 _ => ("interp_grad", T::interp_grad(&g, &many, refusal.part(), lent[3].part())),
             };
@@ -585,7 +591,8 @@ fn no_mode<T: Calls>(g: &Grid<T>, modes: impl Iterator<Item = u8>, r: &mut Rng, 
                 let refusal = refusal.part();
                 return Err(format!("{name}, mode {mode}: number {number}, expected {expected}; refusal {refusal:?}\n{g:?}"));
             }
-            if !origins.rest_kept(0) || !classes.rest_kept(0) || lent.iter().any(|x| !x.rest_kept(0)) {
+            let kept = origins.rest_kept(0) && classes.rest_kept(0) && marks.rest_kept(0);
+            if !kept || lent.iter().any(|x| !x.rest_kept(0)) {
                 return Err(format!("{name}, mode {mode}: an entry was written on {number}\n{g:?}"));
             }
             *k.modes.entry(number).or_default() += 1;
@@ -684,6 +691,7 @@ fn round<T: Calls>(run: &mut Run) -> Result<(), String> {
 
 /// Whether there was no difference.
 fn compare<T: Calls>(queries: u64, seed: u64) -> bool {
+    assert_eq!(T::version(), ours::VERSION, "the archive is of another version than src/ours.rs");
     let start = Instant::now();
     let seeded = seed.wrapping_mul(0x2545f4914f6cdd1d);
     let mut run = Run { r: Rng(seeded), k: Counts::default(), h: Rng(!seeded), held: Counts::default() };

@@ -1,4 +1,4 @@
--- The value is told and written.
+-- The value is told and written, with its marks.
 use denote.Ref.{now}
 use lib.Ieee.{binary32}
 use Rattle.slices.specs.Lent.{setBy}
@@ -9,10 +9,11 @@ use Rattle.capi_f32.proofs.veltzuma_rectilinear_interp_one_f32.Statemen
 use Rattle.capi_f32.proofs.veltzuma_rectilinear_interp_one_f32.Tie as tie
 
 told : tie.Need-returns
+unfolding rectilinearFrom
 told c =
-    let a = c .before .before .before .before .before .before .before .before .before .before .before .before .before .before .before .before .before .before .before .args in
-    let lent = lent-to-query binary32 (a .axis-count) (now (a .counts)) (now (a .axes)) (now (a .vals)) (c .before .before .before .before .before .before .before .before .before .before .counts-from .ensures) (a .mode) (c .before .before .before .before .before .before .before .before .mode-of .ensures) (c .before .before .before .before .before .before .before .before .before .before .before .before .named .ensures) _ _ _ _ (c .before .before .before .before .before .before .before .before .before .before .before .check-query-slices .ensures) in
-    interp-one-leaves (setBy (rectilinearFrom binary32 (a .axis-count) (now (a .counts)) (now (a .axes)) (now (a .vals))) (a .mode)) (now (a .x)) (now (a .refusal)) (c .before .before .before .before .before .before .before .before .before .query-from .ensures) binary32 (now (a .value)) lent (c .before .before .before .before .tell-value .ensures) (c .before .before .before .before .before .before .before .interp-one .ensures)
+    let a = c .before .before .before .before .before .before .before .before .before .before .before .before .before .before .before .before .before .before .before .before .before .before .before .args in
+    let lent = lent-to-query binary32 (a .axis-count) (now (a .counts)) (now (a .axes)) (now (a .vals)) (c .before .before .before .before .before .before .before .before .before .before .before .before .before .counts-from .ensures) (a .mode) (c .before .before .before .before .before .before .before .before .before .before .before .mode-of .ensures) (c .before .before .before .before .before .before .before .before .before .before .before .before .before .before .before .named .ensures) _ _ _ _ _ (c .before .before .before .before .before .before .before .before .before .before .before .before .before .before .check-query-slices .ensures) in
+    interp-one-leaves (setBy (rectilinearFrom binary32 (a .axis-count) (now (a .counts)) (now (a .axes)) (now (a .vals))) (a .mode)) (now (a .x)) (now (a .refusal)) (now (a .marks)) (c .before .before .before .before .before .before .before .before .before .before .before .before .query-from .ensures) binary32 (now (a .value)) lent (c .before .before .before .before .before .before .tell-value .ensures) (c .before .before .before .before .before .before .before .before .before .before .interp-one .ensures)
 
 pub veltzuma-rectilinear-interp-one-f32-spec : {M : Type 1} → statement M
-veltzuma-rectilinear-interp-one-f32-spec = tie.close (tie.spec (λ c κs. tt) (λ c κs. tt) (λ c κs. tt) (λ c κs. tt) (λ c κs. tt) (λ c κs. tt) (λ c κs. tt) (λ c. c .before .before .before .before .tell-value .kept .1 .0) (λ c. c .before .before .before .before .tell-value .kept .1 .1 .0) told)
+veltzuma-rectilinear-interp-one-f32-spec = tie.close (tie.spec (λ c κs. tt) (λ c κs. tt) (λ c κs. tt) (λ c κs. tt) (λ c κs. tt) (λ c κs. tt) (λ c κs. tt) (λ c. c .before .before .before .before .before .before .tell-value .kept .1 .1 .0) (λ c. c .before .before .before .before .before .before .tell-value .kept .1 .1 .1 .0) (λ c. c .before .before .before .before .before .before .tell-value .kept .1 .1 .1 .1 .0) told)

@@ -3,7 +3,7 @@ use mathlib.Core.Path.{_∙_}
 use denote.Ref.{now}
 use lib.Ieee.{binary32, ofBits}
 use Rattle.ieee.specs.Numbers.{zero}
-use Rattle.grid.specs.Query.{at, valueAnswer}
+use Rattle.grid.specs.Query.{at, valueAnswer, markAnswer}
 use Rattle.slices.proofs.Lent.{whole, refused-value}
 use Rattle.rectilinear_query.specs.Grid.{gridOf}
 use borrow.Author.Needs.{needs}
@@ -13,14 +13,15 @@ use Rattle.rectilinear_lent_f32.proofs.interp_one.Tie as tie
 turned-away : tie.Need-returns
 unfolding ofBits
 turned-away c =
-    let a = c .before .before .before .before .before .before .args in
-    c .answered .ensures ∙ refused-value (gridOf binary32 (a .axis-count) (a .counts) (now (a .axes)) (now (a .vals)) (a .mode)) (c .before .new .ensures) (c .before .before .enum-told .given .1) (a .x) binary32 zero
+    let a = c .before .before .before .before .before .before .before .args in
+    let away = refused-value (gridOf binary32 (a .axis-count) (a .counts) (now (a .axes)) (now (a .vals)) (a .mode)) (c .before .before .new .ensures) (c .before .before .before .enum-told .given .1) (a .x) binary32 zero in
+    (c .before .answered .ensures ∙ away .0, c .unmarked .ensures ∙ away .1)
 
 let-through : tie.Need-returns-2
 let-through c =
     let a = c .before .before .before .before .before .args in
     let grid = whole (gridOf binary32 (a .axis-count) (a .counts) (now (a .axes)) (now (a .vals)) (a .mode)) (c .before .enum-told2 .given .1) in
-    c .interp-one .ensures .0 ∙ (λ i. valueAnswer binary32 (grid i) (at (a .x)))
+    (c .interp-one .ensures .0 ∙ (λ i. valueAnswer binary32 (grid i) (at (a .x))), c .interp-one .ensures .1 .0 ∙ (λ i. markAnswer (grid i) (at (a .x))))
 
 pub interp-one-spec : {M : Type 1} → statement M
-interp-one-spec = tie.close (tie.spec (λ c. search needs) (λ c κs. tt) (λ c κs. tt) (λ c. search needs) (λ c κs. tt) turned-away let-through)
+interp-one-spec = tie.close (tie.spec (λ c. search needs) (λ c κs. tt) (λ c κs. tt) (λ c κs. tt) (λ c. search needs) (λ c κs. tt) turned-away let-through)

@@ -1,28 +1,24 @@
--- `get_loc`: the grid's refusal, or what its axes give.
-use mathlib.Core.Path.{refl, sym, _∙_}
+-- `get_loc`: what is found, beside the marks of its outcome.
+use mathlib.Core.Path.{sym, ap, _∙_}
 use lib.Ieee.{binary64}
 use denote.Ref.{now}
-use Rattle.multicubic.proofs.Said.{both-say}
 use Rattle.grid.specs.Query.{at}
-use Rattle.grid.proofs.Locating.{place-found}
+use Rattle.grid.proofs.Marking.{marks-beside, checked-first}
 use Rattle.regular_query.specs.Grid.{gridOf}
 use borrow.Author.Needs.{needs}
 use Rattle.regular.proofs.get_loc.Statement.{statement}
 use Rattle.regular.proofs.get_loc.Tie as tie
 
-locate-requires : tie.Need-locate-requires
-locate-requires c κs = record { values = _; checked = sym (c .before .before .new .ensures .0) ∙ c .enum-told2 .given .1 }
+marks-of-requires : tie.Need-marks-of-requires
+marks-of-requires c κs =
+    let a = c .before .before .args in
+    λ e. record { values = _; checked = checked-first (gridOf binary64 (a .axis-count) (a .axes) (now (a .vals)) (a .mode)) (at (a .x)) _ (c .find-place .ensures .0) e }
 
 returns : tie.Need-returns
 returns c =
-    let told = sym (c .before .before .before .new .ensures .0) ∙ c .before .enum-told .given .1 in
-    both-say (rw (told, c .before .enum-told .given .1) refl, c .nowhere .ensures ∙ rw told refl)
-
-returns-2 : tie.Need-returns-2
-returns-2 c =
-    let a = c .before .before .before .before .before .args in
-    let taken = sym (c .before .before .before .new .ensures .0) ∙ c .before .enum-told2 .given .1 in
-    both-say (place-found (gridOf binary64 (a .axis-count) (a .axes) (now (a .vals)) (a .mode)) (at (a .x)) _ taken (c .locate .ensures))
+    let a = c .before .before .before .args in
+    let w = c .before .find-place .ensures in
+    (w .0, (w .1 .0, (marks-beside (gridOf binary64 (a .axis-count) (a .axes) (now (a .vals)) (a .mode)) (at (a .x)) _ _ (w .0) (c .marks-of .ensures (a .mode)), w .1 .1)))
 
 pub get-loc-spec : {M : Type 1} → statement M
-get-loc-spec = tie.close (tie.spec (λ c κs. search needs) (λ c. search needs) (λ c κs. search needs) (λ c. search needs) locate-requires returns returns-2)
+get-loc-spec = tie.close (tie.spec (λ c κs. search needs) marks-of-requires returns)

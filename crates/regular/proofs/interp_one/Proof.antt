@@ -1,49 +1,26 @@
--- `interp_one`: the grid's refusal, or what is asked of the only query of its batch.
-use mathlib.Core.Path.{sym, _∙_}
-use native.Mathlib.Omega.{arith}
-use lib.ListN.{length}
+-- `interp_one`: what is found, beside the marks of its outcome.
+use mathlib.Core.Path.{sym, ap, _∙_}
 use lib.Ieee.{binary64}
 use denote.Ref.{now}
-use Rattle.grid.proofs.Singles.{value-refused, value-single, value-says}
+use Rattle.grid.specs.Query.{at}
+use Rattle.grid.proofs.Marking.{marks-beside, checked-first}
 use Rattle.regular_query.specs.Grid.{gridOf}
-use Rattle.regular_query.proofs.Locating.{spaceable, ready-by}
 use borrow.Author.Needs.{needs}
+use Rattle.multicubic.specs.Answers.{answerOutcome}
+use Rattle.multicubic.proofs.Said.{outcome-of}
 use Rattle.regular.proofs.interp_one.Statement.{statement}
 use Rattle.regular.proofs.interp_one.Tie as tie
 
-strides-requires : tie.Need-strides-requires
-strides-requires c κs =
-    let a = c .before .before .before .before .before .args in
-    spaceable (a .axis-count) (a .axes) (length (now (a .vals))) (sym (c .before .before .before .new .ensures .0) ∙ c .before .enum-told2 .given .1) _ (c .counts-of .ensures)
-
-answer-at-requires : tie.Need-answer-at-requires
-answer-at-requires c κs =
-    let a = c .before .before .before .before .before .before .before .args in
-    let taken = sym (c .before .before .before .before .before .new .ensures .0) ∙ c .before .before .before .enum-told2 .given .1 in
-    let few = spaceable (a .axis-count) (a .axes) (length (now (a .vals))) taken _ (c .before .before .counts-of .ensures) .0 in
-    (ready-by (a .axis-count) (a .axes) (length (now (a .vals))) taken _ (c .before .before .counts-of .ensures) _ (c .before .strides .ensures), ((omega arith, omega arith), tt))
+marks-of-requires : tie.Need-marks-of-requires
+marks-of-requires c κs =
+    let a = c .before .before .before .args in
+    λ e. record { values = _; checked = checked-first (gridOf binary64 (a .axis-count) (a .axes) (now (a .vals)) (a .mode)) (at (a .x)) _ (c .outcome-of .ensures ∙ ap answerOutcome (c .before .find-value .ensures .0) ∙ outcome-of _ _) e }
 
 returns : tie.Need-returns
 returns c =
-    let a = c .before .before .before .before .before .args in
-    value-says binary64 (gridOf binary64 (a .axis-count) (a .axes) (now (a .vals)) (a .mode)) (a .t5) (c .answered .ensures ∙ value-refused binary64 (gridOf binary64 (a .axis-count) (a .axes) (now (a .vals)) (a .mode)) (a .t5) _ _ (c .before .before .before .new .ensures .0) (c .before .enum-told .given .1))
-
-returns-2 : tie.Need-returns-2
-returns-2 c =
-    let a = c .before .before .before .before .before .before .before .before .args in
-    value-says binary64 (gridOf binary64 (a .axis-count) (a .axes) (now (a .vals)) (a .mode)) (a .t5) (c .answer-at .ensures ∙ value-single binary64 (gridOf binary64 (a .axis-count) (a .axes) (now (a .vals)) (a .mode)) (a .t5) (sym (c .before .before .before .before .before .before .new .ensures .0) ∙ c .before .before .before .before .enum-told2 .given .1))
+    let a = c .before .before .before .before .args in
+    let w = c .before .before .find-value .ensures in
+    (w .0, (marks-beside (gridOf binary64 (a .axis-count) (a .axes) (now (a .vals)) (a .mode)) (at (a .x)) _ _ (c .before .outcome-of .ensures ∙ ap answerOutcome (w .0) ∙ outcome-of _ _) (c .marks-of .ensures (a .mode)), w .1))
 
 pub interp-one-spec : {M : Type 1} → statement M
-interp-one-spec =
-    tie.close
-    (tie.spec
-    (λ c κs. search needs)
-    (λ c. search needs)
-    (λ c κs. search needs)
-    (λ c. search needs)
-    (λ c κs. search needs)
-    strides-requires
-    (λ c. search needs)
-    answer-at-requires
-    returns
-    returns-2)
+interp-one-spec = tie.close (tie.spec (λ c κs. search needs) (λ c κs. search needs) marks-of-requires returns)
