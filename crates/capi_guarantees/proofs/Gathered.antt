@@ -11,9 +11,10 @@ use Rattle.regular_lent.specs.Regular.{regularFrom}
 use Rattle.rectilinear_lent.specs.Rectilinear.{rectilinearFrom}
 use Rattle.regular_guarantees.proofs.Supplied as Reg
 use Rattle.rectilinear_guarantees.proofs.Supplied as Rect
-use Rattle.capi_guarantees.specs.Gathered.{OwedRegular, OwedRectilinear, HeldRegular, HeldRectilinear}
+use Rattle.capi_guarantees.specs.Gathered.{OwedRegular, OwedRectilinear, HeldRegular, HeldRectilinear, UnmarkedRegular, UnmarkedRectilinear}
 use Rattle.capi_guarantees.proofs.Typing.{typed}
 use Rattle.capi_guarantees.proofs.Owed.{owed-held, owed}
+use Rattle.capi_guarantees.proofs.Unmarked.{owed-unmarked}
 
 pub regular : (f : Format) (n : ℕ) (counts : List ℕ) (starts steps : List Float) → OwedRegular f n counts starts steps
 unfolding regularFrom
@@ -47,3 +48,19 @@ held-rectilinear f n counts axes vals entries fit =
     let fits = typed f axes entries in
     let s = setBy (rectilinearFrom f n counts axes vals) 2 in
     owed-held f _ s (Rect.supplied f n cs axes vals Held fits (typed f vals fit)) (Rect.clamped f n cs axes vals fits)
+
+-- clause 8.8
+pub unmarked-regular : (f : Format) (n : ℕ) (counts : List ℕ) (starts steps : List Float) → UnmarkedRegular f n counts starts steps
+unfolding regularFrom
+unmarked-regular f n counts starts steps vals mode fit =
+    let axes = axesFrom counts starts steps in
+    owed-unmarked f _ (setBy (regularFrom f n counts starts steps vals) mode) (Reg.supplied f n axes vals (modeOf mode) (typed f vals fit)) (Reg.counted f n axes vals (modeOf mode) refl)
+    (Reg.at-nodes f n axes vals (modeOf mode))
+
+pub unmarked-rectilinear : (f : Format) (n : ℕ) (counts : List ℕ) (axes : List Float) → UnmarkedRectilinear f n counts axes
+unfolding rectilinearFrom
+unmarked-rectilinear f n counts axes vals mode entries fit =
+    let cs = countsFrom counts in
+    let fits = typed f axes entries in
+    owed-unmarked f _ (setBy (rectilinearFrom f n counts axes vals) mode) (Rect.supplied f n cs axes vals (modeOf mode) fits (typed f vals fit)) (Rect.counted f n cs axes vals (modeOf mode) refl)
+    (Rect.at-nodes f n cs axes vals (modeOf mode) fits)

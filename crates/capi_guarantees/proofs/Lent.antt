@@ -12,6 +12,7 @@ use Rattle.multicubic.proofs.Passed.{not-accepted, then-accepted, refuse-accept
 use Rattle.grid.specs.Query.{Grid}
 use Rattle.slices.specs.Slices.{slicesOf, querySlicesOf, lower}
 use Rattle.slices.specs.Lent.{Gathered, lent, lentTo, lentToQuery}
+use Rattle.slices.proofs.Lent.{whole}
 use Rattle.guarantees.specs.Statements.{IsAccepted}
 use Rattle.guarantees.proofs.Nodes.{Supplied}
 use Rattle.guarantees.proofs.Blocks.{Counted}
@@ -57,7 +58,7 @@ module _ (s : Gathered) (refusal : ℕ) where
   unfolding slicesOf
   refusal-holds e = ltb-false refusal 2 (refuse-accepted _ 7 (then-accepted (refuse (ltb (s .shortest) (s .grid .axis-count)) 3) _ (lower-accepted slices (s .grid .checked) e .0) .1))
 
--- to a single query: what is to be written has room
+-- to a single query: what is to be written has room, and so have the marks
 module _ (s : Gathered) (query refusal room need marks : ℕ) where
   abbrev query-slices : Outcome
   query-slices = querySlicesOf (s .grid .axis-count) (s .shortest) query refusal room need marks
@@ -71,6 +72,18 @@ module _ (s : Gathered) (query refusal room need marks : ℕ) where
   pub counted-to-query : Counted (s .grid) → Counted (lentToQuery s query refusal room need marks)
   counted-to-query = lent-counted query-slices (s .grid)
 
-  pub has-room : IsAccepted (lentToQuery s query refusal room need marks) → need ≤ room
+  roomy : IsAccepted (lentToQuery s query refusal room need marks) → (refuse (ltb room need) 7 ≡ Accepted) × (refuse (ltb marks (s .grid .axis-count)) 7 ≡ Accepted)
   unfolding querySlicesOf
-  has-room e = ltb-false room need (refuse-accepted _ 7 (then-accepted (refuse (ltb room need) 7) _ (then-accepted (slicesOf (s .grid .axis-count) (min (s .shortest) query) refusal) _ (lower-accepted query-slices (s .grid .checked) e .0) .1) .0))
+  roomy e =
+      then-accepted (refuse (ltb room need) 7) _
+      (then-accepted (slicesOf (s .grid .axis-count) (min (s .shortest) query) refusal) _ (lower-accepted query-slices (s .grid .checked) e .0) .1)
+
+  pub has-room : IsAccepted (lentToQuery s query refusal room need marks) → need ≤ room
+  has-room e = ltb-false room need (refuse-accepted _ 7 (roomy e .0))
+
+  pub has-marks : IsAccepted (lentToQuery s query refusal room need marks) → s .grid .axis-count ≤ marks
+  has-marks e = ltb-false marks (s .grid .axis-count) (refuse-accepted _ 7 (roomy e .1))
+
+  -- the grid as it is lent is the grid itself
+  pub whole-query : IsAccepted (lentToQuery s query refusal room need marks) → s .grid ≡ lentToQuery s query refusal room need marks
+  whole-query e = whole (s .grid) (lower-accepted query-slices (s .grid .checked) e .0)

@@ -3,4 +3,5 @@ pub mod Typing
 pub mod Lent
 pub mod Read
 pub mod Owed
+pub mod Unmarked
 pub mod Gathered

@@ -42,7 +42,7 @@ module _ {W : Type 0} (refusal : List ℕ) (written : W) where
 
 -- ---- one query
 -- the first n of what is written over others
-over-first : {A : Type 0} (n : ℕ) (xs before : List A) → n ≤ length xs → n ≤ length before → take n (over (take n xs) before) ≡ take n xs
+pub over-first : {A : Type 0} (n : ℕ) (xs before : List A) → n ≤ length xs → n ≤ length before → take n (over (take n xs) before) ≡ take n xs
 over-first zero xs before h room = refl
 over-first (suc n) [] before h room = absurd (omega arith)
 over-first (suc n) (x ∷ xs) [] h room = absurd (omega arith)

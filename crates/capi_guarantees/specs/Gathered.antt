@@ -13,7 +13,7 @@ use Rattle.rectilinear_order.specs.Grid.{axesOf}
 use Rattle.rectilinear_query.specs.Grid as Rect
 use Rattle.regular_lent.specs.Regular.{regularFrom}
 use Rattle.rectilinear_lent.specs.Rectilinear.{rectilinearFrom}
-use Rattle.capi_guarantees.specs.Statements.{Owed, OwedHeld}
+use Rattle.capi_guarantees.specs.Statements.{Owed, OwedHeld, OwedUnmarked}
 
 abbrev pub OwedRegular : Format → ℕ → List ℕ → List Float → List Float → Type 0
 OwedRegular f n counts starts steps =
@@ -35,3 +35,13 @@ HeldRegular f n counts starts steps =
 abbrev pub HeldRectilinear : Format → ℕ → List ℕ → List Float → Type 0
 HeldRectilinear f n counts axes =
     (vals : List Float) → Fits f axes → Fits f vals → OwedHeld f (Rect.AllPremises f (axesOf (take n (countsFrom counts)) axes)) (setBy (rectilinearFrom f n counts axes vals) 2)
+
+-- clause 8.8: any setting
+abbrev pub UnmarkedRegular : Format → ℕ → List ℕ → List Float → List Float → Type 0
+UnmarkedRegular f n counts starts steps =
+    (vals : List Float) (mode : ℕ) → Fits f vals → OwedUnmarked f (Reg.AllPremises (take n (axesFrom counts starts steps))) (setBy (regularFrom f n counts starts steps vals) mode)
+
+abbrev pub UnmarkedRectilinear : Format → ℕ → List ℕ → List Float → Type 0
+UnmarkedRectilinear f n counts axes =
+    (vals : List Float) (mode : ℕ) → Fits f axes → Fits f vals
+    → OwedUnmarked f (Rect.AllPremises f (axesOf (take n (countsFrom counts)) axes)) (setBy (rectilinearFrom f n counts axes vals) mode)

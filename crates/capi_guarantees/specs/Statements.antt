@@ -1,8 +1,9 @@
 -- What is guaranteed of the calls for C: section 8 as `guarantees` states it, of what a caller reads after a call, on gathered grids of
 -- either kind and in any format. A grid is accepted as it is lent to the call: then every slice is long enough too.
-use Prim.Native.Nat.{ℕ}
+use mathlib.Core.Path.{_≡_}
+use Prim.Native.Nat.{ℕ, min}
 use mathlib.Core.Bool.{cond}
-use mathlib.Core.List.{List}
+use mathlib.Core.List.{List, [], _∷_}
 use lib.Dec.{eqb}
 use lib.ListN.{length, getD, take}
 use lib.Ieee.{Float, nan, Format}
@@ -11,12 +12,12 @@ use Rattle.multicubic.specs.declared.Outcome.{Outcome}
 use Rattle.multicubic.specs.declared.Outcome.the-variants.{Accepted, Refused}
 use Rattle.multicubic.specs.Answers.{answered}
 use Rattle.grid.specs.Query.{Grid, at}
-use Rattle.grid.specs.Nodes.{Fits}
-use Rattle.guarantees.specs.Statements.{NodeRule, NodeCorollary, NodeInBatch, HeldEdge, HeldInBatch, BlockRule, BlockGradient, BlockInBatch, BlockInColumns}
+use Rattle.grid.specs.Nodes.{AtIndex, Fits}
+use Rattle.guarantees.specs.Statements.{IsAccepted, NodeRule, NodeCorollary, NodeInBatch, HeldEdge, HeldInBatch, BlockRule, BlockGradient, BlockInBatch, BlockInColumns}
 use Rattle.slices.specs.Slices.{queryFrom}
 use Rattle.slices.specs.Lent.{Gathered, lentTo, lentToQuery}
 use Rattle.told.specs.Told.{Leaves}
-use Rattle.capi.specs.Calls.{interpOneLeaves, interpOneGradLeaves, interpLeaves, interpGradLeaves}
+use Rattle.capi.specs.Calls.{getLocLeaves, interpOneLeaves, interpOneGradLeaves, interpLeaves, interpGradLeaves}
 
 -- ---- what a caller reads
 -- number 0 is acceptance; on any other but 7, query and axis stand in `refusal`
@@ -73,3 +74,20 @@ pub record OwedHeld (f : Format) (premises : Type 0) (s : Gathered) : Type 0 whe
       (answerRead (interpOneLeaves f s x refusal value marks))
   pub batch : (queries out : List Float) (refusal : List ℕ) → Fits f queries
       → HeldInBatch premises (lentTo s (length refusal)) queries (outcomeRead (interpLeaves f s queries refusal out)) out (interpLeaves f s queries refusal out .written)
+
+-- ---- clause 8.8: at a node each of the three single calls gives 0 and leaves zeros as the marks, the first entries of their slice, one for each axis
+abbrev pub NoMarks : {W : Type 0} → Type 0 → Grid → (ℕ → Float) → Leaves (W × List ℕ) → Type 0
+NoMarks premises g query left =
+    (node : List ℕ) → IsAccepted g → premises → AtIndex 0 (g .axes) node query
+    → (left .number ≡ 0) × (take (g .axis-count) (left .written .1) ≡ take (g .axis-count) (0 ∷ 0 ∷ 0 ∷ 0 ∷ []))
+
+pub record OwedUnmarked (f : Format) (premises : Type 0) (s : Gathered) : Type 0 where
+  pub place : (x : List Float) (refusal origins classes marks : List ℕ) → Fits f x
+      → NoMarks premises (lentToQuery s (length x) (length refusal) (min (length origins) (length classes)) (s .grid .axis-count) (length marks))
+      (at (queryFrom x)) (getLocLeaves s x refusal origins classes marks)
+  pub value : (x value : List Float) (refusal marks : List ℕ) → Fits f x
+      → NoMarks premises (lentToQuery s (length x) (length refusal) (length value) 1 (length marks))
+      (at (queryFrom x)) (interpOneLeaves f s x refusal value marks)
+  pub gradient : (x gradient : List Float) (refusal marks : List ℕ) → Fits f x
+      → NoMarks premises (lentToQuery s (length x) (length refusal) (length gradient) (s .grid .axis-count) (length marks))
+      (at (queryFrom x)) (interpOneGradLeaves f s x refusal gradient marks)

@@ -53,7 +53,8 @@ module _ {gs : List GridAxis} {query : ℕ → Float} {i : ℕ} {marks : List Ma
   marking-all z = s .marks-are ∙ ap (fourOf Accepted unmarked) (take-all i (marksFrom 0 gs query) (omega (arith, marks-length 0 gs query)))
 
 -- ---- beside the outcome of a call
-pub marks-beside : (g : Grid) (query : ℕ → Float) (outcome : Outcome) (marks : List Marks) → outcome ≡ outcomeOf g query → marks ≡ marksBeside outcome (g .axes) query → marks ≡ markAnswer g query
+pub marks-beside : (g : Grid) (query : ℕ → Float) (outcome : Outcome) (marks : List Marks) → outcome ≡ outcomeOf g query
+    → marks ≡ marksBeside outcome (g .axes) query → marks ≡ markAnswer g query
 marks-beside g query outcome marks e m = m ∙ ap (λ (o : Outcome). marksBeside o (g .axes) query) e
 
 -- an accepted query's grid is taken
@@ -66,22 +67,27 @@ pub marks-refused : (g : Grid) (query : ℕ → Float) (k q a : ℕ) → outcome
 marks-refused g query k q a e = ap (λ (o : Outcome). marksBeside o (g .axes) query) e
 
 -- an axis has the same marks in every setting
-pub edge-marks : (mode : EdgeMode) (axis : Bool → GridAxis) → axis true .count ≡ axis false .count → axis true .node ≡ axis false .node → (given : Float) → marksAt (edgeAxis mode axis) given ≡ marksAt (axis false) given
+pub edge-marks : (mode : EdgeMode) (axis : Bool → GridAxis) → axis true .count ≡ axis false .count → axis true .node ≡ axis false .node
+    → (given : Float) → marksAt (edgeAxis mode axis) given ≡ marksAt (axis false) given
 edge-marks Cubic axis c n given = refl
 edge-marks Straight axis c n given = λ k. record { below = lt given (n k 0); above = lt (n k (c k - 1)) given }
 edge-marks Held axis c n given = refl
 
 -- so in each the two comparisons of the code give them
-pub marks-by : (mode : EdgeMode) (axis : Bool → GridAxis) → axis true .count ≡ axis false .count → axis true .node ≡ axis false .node → (given : Float) (m : Marks) → m .below ≡ below (axis false) given → m .above ≡ above (axis false) given → m ≡ marksAt (edgeAxis mode axis) given
+pub marks-by : (mode : EdgeMode) (axis : Bool → GridAxis) → axis true .count ≡ axis false .count → axis true .node ≡ axis false .node
+    → (given : Float) (m : Marks) → m .below ≡ below (axis false) given → m .above ≡ above (axis false) given → m ≡ marksAt (edgeAxis mode axis) given
 marks-by mode axis c n given m b a = (λ k. record { below = b k; above = a k }) ∙ sym (edge-marks mode axis c n given)
 
-pub marks-each : {A : Type 0} (told told' : A → GridAxis) → ((x : A) (given : Float) → marksAt (told x) given ≡ marksAt (told' x) given) → (axis : ℕ) (xs : List A) (query : ℕ → Float) → marksFrom axis (map told xs) query ≡ marksFrom axis (map told' xs) query
+pub marks-each : {A : Type 0} (told told' : A → GridAxis) → ((x : A) (given : Float) → marksAt (told x) given ≡ marksAt (told' x) given)
+    → (axis : ℕ) (xs : List A) (query : ℕ → Float) → marksFrom axis (map told xs) query ≡ marksFrom axis (map told' xs) query
 marks-each told told' e axis [] query = refl
 marks-each told told' e axis (x ∷ xs) query = λ k. e x (query axis) k ∷ marks-each told told' e (suc axis) xs query k
 
 -- two tables that answer a query have the same marks, whatever their values and their settings, where each axis has
-pub marks-alike : (g g' : Grid) (query : ℕ → Float) → outcomeOf g query ≡ Accepted → outcomeOf g' query ≡ Accepted → marksFrom 0 (g .axes) query ≡ marksFrom 0 (g' .axes) query → markAnswer g query ≡ markAnswer g' query
-marks-alike g g' query e e' m = ap (λ (o : Outcome). marksBeside o (g .axes) query) e ∙ ap (fourOf Accepted unmarked) m ∙ sym (ap (λ (o : Outcome). marksBeside o (g' .axes) query) e')
+pub marks-alike : (g g' : Grid) (query : ℕ → Float) → outcomeOf g query ≡ Accepted → outcomeOf g' query ≡ Accepted
+    → marksFrom 0 (g .axes) query ≡ marksFrom 0 (g' .axes) query → markAnswer g query ≡ markAnswer g' query
+marks-alike g g' query e e' m =
+    ap (λ (o : Outcome). marksBeside o (g .axes) query) e ∙ ap (fourOf Accepted unmarked) m ∙ sym (ap (λ (o : Outcome). marksBeside o (g' .axes) query) e')
 
 -- held, a coordinate is replaced exactly where it is marked: where it is not, it is used as given; where it is, another number is
 pub unmarked-used : (g : GridAxis) (given : Float) → marksAt g given ≡ unmarked → hold g given ≡ given

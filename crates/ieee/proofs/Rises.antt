@@ -187,7 +187,8 @@ from-start f (inf s) p z g q h = rw (q .1) (unfold add in h)
 from-start f (fin s m e) p z g q h = same-right (add f (fin s m e) p) (add f (fin s m e) z) (fin s m e) tt (add-zero-right f (fin s m e) z tt g q) h
 
 -- none is below the first, for every step above zero and every start, finite or not
-pub multiples-rise : (f : Format) (start step : Float) (k : ℕ) → T (fits f start) → lt zero step ≡ true → lt (add f start (mul f step (ofInt f (pos k)))) (add f start (mul f step (ofInt f (pos 0)))) ≡ false
+pub multiples-rise : (f : Format) (start step : Float) (k : ℕ) → T (fits f start) → lt zero step ≡ true →
+    lt (add f start (mul f step (ofInt f (pos k)))) (add f start (mul f step (ofInt f (pos 0)))) ≡ false
 multiples-rise f start nan k g h = absurd (true-not-false (sym h ∙ nan-right zero))
 multiples-rise f start (inf true) k g h = absurd (true-not-false (sym h ∙ unfold lt in refl))
 -- the first is a NaN

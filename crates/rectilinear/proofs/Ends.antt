@@ -24,7 +24,8 @@ use Rattle.grid.proofs.Unmarked.{OneMark, one-marks}
 use Rattle.rectilinear_query.specs.Grid.{gridAxis, axisIn, gridAxes, axesIn, gridOf}
 use Rattle.rectilinear_query.proofs.Sizes.{part-length, rest-length, passed, joined-length}
 
-ends-of : (f : Format) (mode : EdgeMode) (cs : List ℕ) (joined : List Float) → length joined ≡ sum cs → Long cs → All (λ (g : List Float). disorder g ≡ false) (axesOf cs joined) → All EndsInOrder (gridAxes f mode (axesOf cs joined))
+ends-of : (f : Format) (mode : EdgeMode) (cs : List ℕ) (joined : List Float) → length joined ≡ sum cs → Long cs
+    → All (λ (g : List Float). disorder g ≡ false) (axesOf cs joined) → All EndsInOrder (gridAxes f mode (axesOf cs joined))
 ends-of f mode [] joined e long sound = tt
 ends-of f mode (c ∷ cs) joined e long sound =
     let part = take c joined in
@@ -47,7 +48,8 @@ module _ (f : Format) (n : ℕ) (counts : List ℕ) (joined vals : List Float) (
   one-mark = one-marks (axesIn f mode n counts joined) ends
 
 -- where both answer a query, neither the setting nor the values have a say in its marks
-pub same-marks : (f : Format) (n : ℕ) (counts : List ℕ) (joined vals vals' : List Float) (mode mode' : EdgeMode) (query : ℕ → Float) → outcomeOf (gridOf f n counts joined vals mode) query ≡ Accepted → outcomeOf (gridOf f n counts joined vals' mode') query ≡ Accepted
+pub same-marks : (f : Format) (n : ℕ) (counts : List ℕ) (joined vals vals' : List Float) (mode mode' : EdgeMode) (query : ℕ → Float)
+    → outcomeOf (gridOf f n counts joined vals mode) query ≡ Accepted → outcomeOf (gridOf f n counts joined vals' mode') query ≡ Accepted
     → markAnswer (gridOf f n counts joined vals mode) query ≡ markAnswer (gridOf f n counts joined vals' mode') query
 same-marks f n counts joined vals vals' mode mode' query e e' =
     marks-alike (gridOf f n counts joined vals mode) (gridOf f n counts joined vals' mode') query e e'

@@ -45,7 +45,8 @@ module _ (f : Format) (n : ℕ) (axes : List Axis) (vals : List Float) (mode : E
   one-mark = one-marks (axesIn f mode n axes) ends
 
 -- where both answer a query, neither the setting nor the values have a say in its marks
-pub same-marks : (f : Format) (n : ℕ) (axes : List Axis) (vals vals' : List Float) (mode mode' : EdgeMode) (query : ℕ → Float) → outcomeOf (gridOf f n axes vals mode) query ≡ Accepted → outcomeOf (gridOf f n axes vals' mode') query ≡ Accepted
+pub same-marks : (f : Format) (n : ℕ) (axes : List Axis) (vals vals' : List Float) (mode mode' : EdgeMode) (query : ℕ → Float)
+    → outcomeOf (gridOf f n axes vals mode) query ≡ Accepted → outcomeOf (gridOf f n axes vals' mode') query ≡ Accepted
     → markAnswer (gridOf f n axes vals mode) query ≡ markAnswer (gridOf f n axes vals' mode') query
 same-marks f n axes vals vals' mode mode' query e e' =
     marks-alike (gridOf f n axes vals mode) (gridOf f n axes vals' mode') query e e'
