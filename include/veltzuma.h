@@ -11,7 +11,7 @@
  * after a call returns, nothing is allocated, and calls may run at the same time on several threads. Pointers are aligned for their
  * type. The floating-point environment is the one that a program starts with: round to nearest, subnormals kept.
  *
- * A call returns one of these numbers:
+ * A call, veltzuma_version aside, returns one of these numbers:
  *
  *   0  done
  *   1  axis count not 1 to 4

@@ -3,6 +3,7 @@ import ctypes
 import io
 import itertools
 import os
+import re
 import shutil
 import struct
 import subprocess
@@ -19,6 +20,9 @@ sys.path[:0] = [os.path.join(TOP, 'tools'), os.path.join(TOP, 'bindings', 'pytho
 MODES = ('cubic', 'straight', 'held')
 CLASSES = ('None', 'InsideLow', 'OutsideLow', 'InsideHigh', 'OutsideHigh')
 MARKS = ('', 'below', 'above')
+# Of the calls, by the header.
+with open(os.path.join(TOP, 'include', 'veltzuma.h'), encoding='utf-8') as header:
+    VERSION = int(re.search(r'^#define VELTZUMA_VERSION (\d+)$', header.read(), re.M).group(1))
 
 
 if not os.environ.get('VELTZUMA_LIBRARY'):
@@ -154,10 +158,10 @@ def stand_in(folder, name, versions, symbols=True):
 
 
 # Libraries of another version, by the name of a file: what stand_in makes them of, and what is said of them.
-OTHERS = {'old.so': ({}, 'old.so has no version, so it is an older library, and version 2 is needed'),
-          'new.so': ({'': 3, '_f32': 3}, 'new.so has version 3, and version 2 is needed'),
-          'half.so': ({'': 2, '_f32': 1}, 'half.so has version 1 in f32, and version 2 is needed'),
-          'half_old.so': ({'': 2}, 'half_old.so has no version in f32, so it is an older library, and version 2 is needed')}
+OTHERS = {'old.so': ({}, f'old.so has no version, so it is an older library, and version {VERSION} is needed'),
+          'new.so': ({'': VERSION + 1, '_f32': VERSION + 1}, f'new.so has version {VERSION + 1}, and version {VERSION} is needed'),
+          'half.so': ({'': VERSION, '_f32': VERSION - 1}, f'half.so has version {VERSION - 1} in f32, and version {VERSION} is needed'),
+          'half_old.so': ({'': VERSION}, f'half_old.so has no version in f32, so it is an older library, and version {VERSION} is needed')}
 
 
 def bits(x, width):

@@ -137,6 +137,13 @@ class Answers(InFolder):
                 row = read(run('eval', path, '--at', at, '--mode', mode, '--width', width)[1])[1][0]
                 self.assertEqual(','.join(row[4:]), place + ',', (path, mode, at))
 
+    def test_outside_as_rounded(self):
+        """The last entry is 0.3 + 0.7·3 as rounded, in either width less than 2.4."""
+        path = self.write(table([('a', 0.3, 0.7, 4)], [[0, 1, 8, 27]], 'regular'))
+        for width, last in (('f64', '2.3999999999999995'), ('f32', '2.3999998')):
+            rows = read(run('eval', path, '--at', last, '--at', '2.4', '--width', width)[1])[1]
+            self.assertEqual([row[5] for row in rows], ['', 'above'])
+
     def test_known_numbers(self):
         """Clause 9.2."""
         path = self.write(table([('a', 0, 1, 4)], [[0, 1, 8, 27]], 'regular'))

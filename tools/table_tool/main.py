@@ -56,7 +56,8 @@ def parser():
 
     found = command('eval', evaluated, 'answers queries: value, slope along each axis, place and class on each axis, and past which end of it they are, as CSV',
                     f'eval {SAMPLE} --at 55,31.5,-120 --at 55,31.5,0 --mode held',
-                    "\n'outside on' an axis is 'below' where the query, as given, is below its first entry, 'above' where it is above its last, and else empty."
+                    "\n'outside on' an axis is 'below' where the query, as given, is below its first entry, 'above' where it is above its last, and else empty;"
+                    '\nquery and entries are compared as rounded to the width, so 2.4 is above an axis of four entries from 0.3 in steps of 0.7.'
                     '\nA query that is refused says so in its line, and the others are answered. Exit status: 0 all answered, 1 some refused, 2 bad input.')
     found.add_argument('table')
     found.add_argument('--at', action='append', metavar='X,Y,..', help='a query, one coordinate for each axis; there may be several')

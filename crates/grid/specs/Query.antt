@@ -1,4 +1,5 @@
--- One query on a grid: the axes in its setting (clause 3.7), its places, its value and its gradient (clauses 3.6, 5.4 and 6.2).
+-- One query on a grid: the axes in its setting (clause 3.7), its places, its value and its gradient (clauses 3.6, 5.4 and 6.2), its marks (clause
+-- 3.8).
 use Prim.Native.Nat.{ℕ, suc, _-_}
 use mathlib.Core.Bool.{Bool, false, true, cond, _||_}
 use mathlib.Core.List.{List, [], _∷_, _++_, map}

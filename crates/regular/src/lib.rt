@@ -223,7 +223,7 @@ fn find_gradient(
     }
 }
 
-// The place of a query: origin and class on every axis, or the refusal.
+// The place of a query: origin, class and marks on every axis, or the refusal.
 pub fn get_loc(
     axis_count: usize,
     axes: [Axis; 4],
