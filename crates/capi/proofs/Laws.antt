@@ -34,14 +34,19 @@ module _ (s : Gathered) (refusal : List ℕ) {g : Grid} (lent : g ≡ lentTo s (
 
 module _ (s : Gathered) (x : List Float) (refusal marks : List ℕ) {at-x : List Float} (query : at-x ≡ queryFrom x) {g : Grid} {pairs : List Marks} where
   module _ (f : Format) (value : List Float) {left : Leaves (List Float × List ℕ)} where
-    pub interp-one-leaves : {answer : Answer} → g ≡ lentToQuery s (length x) (length refusal) (length value) 1 (length marks) → left ≡ leavesMarked (answerOutcome answer) refusal (withValue answer value) (s .grid .axis-count) pairs marks → ValueOn f g at-x answer pairs → left ≡ interpOneLeaves f s x refusal value marks
+    pub interp-one-leaves : {answer : Answer} → g ≡ lentToQuery s (length x) (length refusal) (length value) 1 (length marks)
+        → left ≡ leavesMarked (answerOutcome answer) refusal (withValue answer value) (s .grid .axis-count) pairs marks
+        → ValueOn f g at-x answer pairs → left ≡ interpOneLeaves f s x refusal value marks
     unfolding interpOneLeaves
     interp-one-leaves lent p e =
         let answer = e .0 ∙ (λ i. valueAnswer f (lent i) (at (query i))) in
         let pairs = e .1 ∙ (λ i. markAnswer (lent i) (at (query i))) in
         p ∙ (λ i. leavesMarked (answerOutcome (answer i)) refusal (withValue (answer i) value) (s .grid .axis-count) (pairs i) marks)
 
-    pub interp-one-grad-leaves : {o : Outcome} {components : List Float} → g ≡ lentToQuery s (length x) (length refusal) (length value) (s .grid .axis-count) (length marks) → left ≡ leavesMarked o refusal (withFirst o (s .grid .axis-count) components value) (s .grid .axis-count) pairs marks → GradientOn f g at-x o components pairs → left ≡ interpOneGradLeaves f s x refusal value marks
+    pub interp-one-grad-leaves : {o : Outcome} {components : List Float}
+        → g ≡ lentToQuery s (length x) (length refusal) (length value) (s .grid .axis-count) (length marks)
+        → left ≡ leavesMarked o refusal (withFirst o (s .grid .axis-count) components value) (s .grid .axis-count) pairs marks
+        → GradientOn f g at-x o components pairs → left ≡ interpOneGradLeaves f s x refusal value marks
     unfolding interpOneGradLeaves
     interp-one-grad-leaves lent p e =
         let outcome = e .0 ∙ (λ i. outcomeOf (lent i) (at (query i))) in
@@ -49,7 +54,10 @@ module _ (s : Gathered) (x : List Float) (refusal marks : List ℕ) {at-x : List
         let pairs = e .2 ∙ (λ i. markAnswer (lent i) (at (query i))) in
         p ∙ (λ i. leavesMarked (outcome i) refusal (withFirst (outcome i) (s .grid .axis-count) (components i) value) (s .grid .axis-count) (pairs i) marks)
 
-  pub get-loc-leaves : (origins classes : List ℕ) {room : ℕ} {left : Leaves ((List ℕ × List ℕ) × List ℕ)} {o : Outcome} {places : List Place} → room ≡ min (length origins) (length classes) → g ≡ lentToQuery s (length x) (length refusal) room (s .grid .axis-count) (length marks) → left ≡ leavesMarked o refusal (withPlaces o (s .grid .axis-count) places origins classes) (s .grid .axis-count) pairs marks → PlacesOn g at-x o places pairs → left ≡ getLocLeaves s x refusal origins classes marks
+  pub get-loc-leaves : (origins classes : List ℕ) {room : ℕ} {left : Leaves ((List ℕ × List ℕ) × List ℕ)} {o : Outcome} {places : List Place}
+      → room ≡ min (length origins) (length classes) → g ≡ lentToQuery s (length x) (length refusal) room (s .grid .axis-count) (length marks)
+      → left ≡ leavesMarked o refusal (withPlaces o (s .grid .axis-count) places origins classes) (s .grid .axis-count) pairs marks
+      → PlacesOn g at-x o places pairs → left ≡ getLocLeaves s x refusal origins classes marks
   unfolding getLocLeaves
   get-loc-leaves origins classes room lent p e =
       let lent' = lent ∙ ap (λ r. lentToQuery s (length x) (length refusal) r (s .grid .axis-count) (length marks)) room in

@@ -33,7 +33,8 @@ module _ (f : Format) (premises : Type 0) (s s' : Gathered) where
     abbrev one' : Grid
     one' = lentToQuery s' (length x) (length refusal') (length out') 1 (length marks')
 
-    of-value : Supplied f premises (s .grid) → Supplied f premises (s' .grid) → Fits f x → OfValue premises one one' query (interpOneLeaves f s x refusal out marks) (interpOneLeaves f s' x refusal' out' marks')
+    of-value : Supplied f premises (s .grid) → Supplied f premises (s' .grid) → Fits f x
+        → OfValue premises one one' query (interpOneLeaves f s x refusal out marks) (interpOneLeaves f s' x refusal' out' marks')
     of-value kind kind' fit =
         let supplied = supplied-to-query s (length x) (length refusal) (length out) 1 (length marks) kind in
         let supplied' = supplied-to-query s' (length x) (length refusal') (length out') 1 (length marks') kind' in
@@ -101,11 +102,15 @@ module _ (f : Format) (premises : Type 0) (s s' : Gathered) where
 
 -- of one table that holds its edges, where the kind supplies the rows of a query past an end
 module _ (f : Format) (premises : Type 0) (s : Gathered) (kind : Supplied f premises (s .grid)) (rows : (query : ℕ → Float) → Typed f query → IsAccepted (s .grid) → premises → (is : List ℕ) → AtClamped 0 (s .grid .axes) is query → AtEach 0 (s .grid .axes) is query) where
-  held-value : (x out : List Float) (refusal marks : List ℕ) → Fits f x → HeldEdge premises (lentToQuery s (length x) (length refusal) (length out) 1 (length marks)) (at (queryFrom x)) (answerRead (interpOneLeaves f s x refusal out marks))
+  held-value : (x out : List Float) (refusal marks : List ℕ) → Fits f x
+      → HeldEdge premises (lentToQuery s (length x) (length refusal) (length out) 1 (length marks)) (at (queryFrom x))
+      (answerRead (interpOneLeaves f s x refusal out marks))
   held-value x out refusal marks fit index h =
       let one = lentToQuery s (length x) (length refusal) (length out) 1 (length marks) in
       let supplied = supplied-to-query s (length x) (length refusal) (length out) 1 (length marks) kind in
-      let r = held-edge f premises one supplied (λ query typed e. rows query typed (accepted-query s (length x) (length refusal) (length out) 1 (length marks) e)) (at (queryFrom x)) (query-typed f x fit) (valueAnswer f one (at (queryFrom x))) refl index h in
+      let r = held-edge f premises one supplied
+      (λ query typed e. rows query typed (accepted-query s (length x) (length refusal) (length out) 1 (length marks) e))
+      (at (queryFrom x)) (query-typed f x fit) (valueAnswer f one (at (queryFrom x))) refl index h in
       (r .0, value-read f s x refusal marks out (r .0) (h .0) (r .1), r .2)
 
   held-batch : (queries out : List Float) (refusal : List ℕ) → Fits f queries

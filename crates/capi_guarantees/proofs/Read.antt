@@ -72,7 +72,9 @@ module _ (f : Format) (s : Gathered) (x : List Float) (refusal marks : List ℕ)
       let entry : answerRead (leavesMarked Accepted refusal (set out 0 v) n (markAnswer one query) marks) ≡ Value v = ap Value (getD-set-same out 0 v nan (omega arith)) in
       ap (λ a. answerRead (leavesMarked (answerOutcome a) refusal (withValue a out) n (markAnswer one query) marks)) e ∙ entry
 
-  pub gradient-read : n ≤ 4 → IsAccepted each → outcomeOf each query ≡ Accepted → (outcomeRead (interpOneGradLeaves f s x refusal out marks) ≡ Accepted) × (take n (interpOneGradLeaves f s x refusal out marks .written .0) ≡ take n (gradientAnswer f each query))
+  pub gradient-read : n ≤ 4 → IsAccepted each → outcomeOf each query ≡ Accepted
+      → (outcomeRead (interpOneGradLeaves f s x refusal out marks) ≡ Accepted)
+      × (take n (interpOneGradLeaves f s x refusal out marks .written .0) ≡ take n (gradientAnswer f each query))
   unfolding interpOneGradLeaves
   gradient-read few taken e =
       let room = has-room s (length x) (length refusal) (length out) n (length marks) taken in

@@ -30,17 +30,20 @@ use Rattle.capi_guarantees.proofs.Lent.{supplied-to-query, counted-to-q
 use Rattle.capi_guarantees.proofs.Read.{over-first}
 
 -- on any grid: at a node a query is placed
-module _ (f : Format) (premises : Type 0) (g : Grid) (kind : Supplied f premises g) (query : ℕ → Float) (typed : Typed f query) (node : List ℕ) (taken : IsAccepted g) (within : premises) (here : AtIndex 0 (g .axes) node query) where
+module _ (f : Format) (premises : Type 0) (g : Grid) (kind : Supplied f premises g) (query : ℕ → Float) (typed : Typed f query) (node : List ℕ)
+    (taken : IsAccepted g) (within : premises) (here : AtIndex 0 (g .axes) node query) where
   placed : outcomeOf g query ≡ Accepted
   placed =
       let found = found-at query 0 (g .axes) node (kind .sized taken .long) (at-each f query typed 0 (g .axes) node (kind .laws taken within) here) .found in
       λ i. taken i then foundOutcome 0 (found i)
 
 -- marks that are unset are written as zeros
-zeros : (n : ℕ) (pairs : List Marks) (before : List ℕ) → n ≤ 4 → n ≤ length before → pairs ≡ unmarked ∷ unmarked ∷ unmarked ∷ unmarked ∷ [] → take n (withMarks Accepted n pairs before) ≡ take n (0 ∷ 0 ∷ 0 ∷ 0 ∷ [])
+zeros : (n : ℕ) (pairs : List Marks) (before : List ℕ) → n ≤ 4 → n ≤ length before → pairs ≡ unmarked ∷ unmarked ∷ unmarked ∷ unmarked ∷ []
+    → take n (withMarks Accepted n pairs before) ≡ take n (0 ∷ 0 ∷ 0 ∷ 0 ∷ [])
 zeros n pairs before few room e = ap (λ (ms : List Marks). take n (withMarks Accepted n ms before)) e ∙ over-first n (0 ∷ 0 ∷ 0 ∷ 0 ∷ []) before few room
 
-module _ (f : Format) (premises : Type 0) (s : Gathered) (kind : Supplied f premises (s .grid)) (counted : Counted (s .grid)) (unset : (query : ℕ → Float) → UnmarkedAtNode premises (s .grid) query (markAnswer (s .grid) query)) where
+module _ (f : Format) (premises : Type 0) (s : Gathered) (kind : Supplied f premises (s .grid)) (counted : Counted (s .grid))
+    (unset : (query : ℕ → Float) → UnmarkedAtNode premises (s .grid) query (markAnswer (s .grid) query)) where
   abbrev n : ℕ
   n = s .grid .axis-count
 
@@ -58,8 +61,12 @@ module _ (f : Format) (premises : Type 0) (s : Gathered) (kind : Supplied f prem
         let whole = whole-query s (length x) (length refusal) room need (length marks) taken in
         let few = counted-to-query s (length x) (length refusal) room need (length marks) counted taken .1 in
         let long = has-marks s (length x) (length refusal) room need (length marks) taken in
-        let none = unset query node (subst (λ (g : Grid). g .checked ≡ Accepted) (sym whole) taken) within here in
-        (ap numberOf o, ap (λ (u : Outcome). take n (withMarks u n (markAnswer one query) marks)) o ∙ zeros n (markAnswer one query) marks few long (subst (λ (g : Grid). markAnswer g query ≡ unmarked ∷ unmarked ∷ unmarked ∷ unmarked ∷ []) whole none))
+        let none = unset query node (subst (λ (g : Grid). g .checked ≡ Accepted) (sym whole) taken) within here in (
+          ap numberOf o,
+          ap (λ (u : Outcome). take n (withMarks u n (markAnswer one query) marks)) o
+              ∙ zeros n (markAnswer one query) marks few long
+              (subst (λ (g : Grid). markAnswer g query ≡ unmarked ∷ unmarked ∷ unmarked ∷ unmarked ∷ []) whole none),
+        )
 
   place-unmarked : (x : List Float) (refusal origins classes marks : List ℕ) → Fits f x
       → NoMarks premises (lentToQuery s (length x) (length refusal) (min (length origins) (length classes)) n (length marks)) (at (queryFrom x)) (getLocLeaves s x refusal origins classes marks)

@@ -31,7 +31,9 @@ marks-length axis (g ∷ gs) query = ap suc (marks-length (suc axis) gs query)
 marks-at : (axis i : ℕ) (gs : List GridAxis) (query : ℕ → Float) → i < length gs → getD (marksFrom axis gs query) i unmarked ≡ marksAt (getD gs i noAxis) (query (axis + i))
 marks-at axis i [] query h = absurd (omega arith)
 marks-at axis zero (g ∷ gs) query h = let z : axis ≡ axis + 0 = omega arith in ap (λ (k : ℕ). marksAt g (query k)) z
-marks-at axis (suc i) (g ∷ gs) query h = let z : suc axis + i ≡ axis + suc i = omega arith in marks-at (suc axis) i gs query (omega arith) ∙ ap (λ (k : ℕ). marksAt (getD gs i noAxis) (query k)) z
+marks-at axis (suc i) (g ∷ gs) query h =
+    let z : suc axis + i ≡ axis + suc i = omega arith in
+    marks-at (suc axis) i gs query (omega arith) ∙ ap (λ (k : ℕ). marksAt (getD gs i noAxis) (query k)) z
 
 -- ---- the first i of them are set
 pub record Marking (gs : List GridAxis) (query : ℕ → Float) (i : ℕ) (marks : List Marks) : Type 0 where

@@ -53,4 +53,6 @@ pub same-marks : (f : Format) (n : ℕ) (counts : List ℕ) (joined vals vals' :
     → markAnswer (gridOf f n counts joined vals mode) query ≡ markAnswer (gridOf f n counts joined vals' mode') query
 same-marks f n counts joined vals vals' mode mode' query e e' =
     marks-alike (gridOf f n counts joined vals mode) (gridOf f n counts joined vals' mode') query e e'
-    (marks-each (axisIn f mode) (axisIn f mode') (λ g x. edge-marks mode (λ straight. gridAxis f straight g) refl refl x ∙ sym (edge-marks mode' (λ straight. gridAxis f straight g) refl refl x)) 0 (axesOf (take n counts) joined) query)
+    (marks-each (axisIn f mode) (axisIn f mode')
+    (λ g x. edge-marks mode (λ straight. gridAxis f straight g) refl refl x ∙ sym (edge-marks mode' (λ straight. gridAxis f straight g) refl refl x))
+    0 (axesOf (take n counts) joined) query)

@@ -55,15 +55,20 @@ laws f mode [] joined e long fit premises = tt
 laws f mode (c ∷ cs) joined e long fit premises =
     let l = part-length c cs joined e in
     let four : 4 ≤ length (take c joined) = omega (arith, long .0) in (
-      edge-law f mode (λ straight. gridAxis f straight (take c joined)) (axis-law f (take c joined) four (part-fits f c joined fit) (premises .0)) (axis-order f (take c joined) four (part-fits f c joined fit) (premises .0) false),
+      edge-law f mode (λ straight. gridAxis f straight (take c joined)) (axis-law f (take c joined) four (part-fits f c joined fit) (premises .0))
+          (axis-order f (take c joined) four (part-fits f c joined fit) (premises .0) false),
       laws f mode cs (drop c joined) (rest-length c cs joined e) (long .1) (rest-fits f c joined fit) (premises .1),
     )
 
-orders : (f : Format) (mode : EdgeMode) (cs : List ℕ) (joined : List Float) → length joined ≡ sum cs → Long cs → Fits f joined → AllPremises f (axesOf cs joined) → All (InOrder f) (gridAxes f mode (axesOf cs joined))
+orders : (f : Format) (mode : EdgeMode) (cs : List ℕ) (joined : List Float) → length joined ≡ sum cs → Long cs → Fits f joined
+    → AllPremises f (axesOf cs joined) → All (InOrder f) (gridAxes f mode (axesOf cs joined))
 orders f mode [] joined e long fit premises = tt
 orders f mode (c ∷ cs) joined e long fit premises =
-    let l = part-length c cs joined e in
-    (edge-order f mode (λ straight. gridAxis f straight (take c joined)) (axis-order f (take c joined) (omega (arith, long .0)) (part-fits f c joined fit) (premises .0)), orders f mode cs (drop c joined) (rest-length c cs joined e) (long .1) (rest-fits f c joined fit) (premises .1))
+    let l = part-length c cs joined e in (
+      edge-order f mode (λ straight. gridAxis f straight (take c joined))
+          (axis-order f (take c joined) (omega (arith, long .0)) (part-fits f c joined fit) (premises .0)),
+      orders f mode cs (drop c joined) (rest-length c cs joined e) (long .1) (rest-fits f c joined fit) (premises .1),
+    )
 
 -- the axes that hold their edges are the cubic ones, held
 pub held-axes : (f : Format) (axes : List (List Float)) → map heldAxis (gridAxes f Cubic axes) ≡ gridAxes f Held axes

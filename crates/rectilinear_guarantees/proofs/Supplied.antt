@@ -40,4 +40,5 @@ clamped f n counts joined vals entries query typed taken premises is at = clampe
 -- at a node no mark is set, in any setting
 pub at-nodes : (f : Format) (n : ℕ) (counts : List ℕ) (joined vals : List Float) (mode : EdgeMode) → Typed f (at joined) → (query : ℕ → Float)
     → UnmarkedAtNode (AllPremises f (axesOf (take n counts) joined)) (gridOf f n counts joined vals mode) query (markAnswer (gridOf f n counts joined vals mode) query)
-at-nodes f n counts joined vals mode entries query node taken premises at = nodes-unmarked f (gridOf f n counts joined vals mode) query node (in-order f n counts joined vals mode taken (λ k l. entries k) premises) at
+at-nodes f n counts joined vals mode entries query node taken premises at =
+    nodes-unmarked f (gridOf f n counts joined vals mode) query node (in-order f n counts joined vals mode taken (λ k l. entries k) premises) at

@@ -23,6 +23,7 @@ module _ (f : Format) (n : ℕ) (counts : List ℕ) (axes vals : List Float) {fo
     unfolding rectilinearFrom
     lent-to refusal e = λ i. lent ((e ∙ ap (λ s. slicesOf n s refusal) k) i) (gridOf f n (c i) axes vals (d i))
 
-    pub lent-to-query : (query refusal room need marks : ℕ) → slices ≡ querySlicesOf n named query refusal room need marks → lent slices (gridOf f n four axes vals edge) ≡ lentToQuery (setBy (rectilinearFrom f n counts axes vals) mode) query refusal room need marks
+    pub lent-to-query : (query refusal room need marks : ℕ) → slices ≡ querySlicesOf n named query refusal room need marks
+        → lent slices (gridOf f n four axes vals edge) ≡ lentToQuery (setBy (rectilinearFrom f n counts axes vals) mode) query refusal room need marks
     unfolding rectilinearFrom
     lent-to-query query refusal room need marks e = λ i. lent ((e ∙ ap (λ s. querySlicesOf n s query refusal room need marks) k) i) (gridOf f n (c i) axes vals (d i))

@@ -88,7 +88,8 @@ pub fn interp_one_grad(
     mode: EdgeMode,
     x: [f64; 4],
 ) -> MarkedGradient
-    ensures { λ r. ⌜ GradientOn binary64 (lent slices (gridOf binary64 «axis_count» counts (now (axes .entry)) (now (vals .entry)) mode)) x (r .answer .outcome) (r .answer .gradient) (r .marks) ⌝ }
+    ensures { λ r. ⌜ GradientOn binary64 (lent slices (gridOf binary64 «axis_count» counts (now (axes .entry)) (now (vals .entry)) mode)) x
+        (r .answer .outcome) (r .answer .gradient) (r .marks) ⌝ }
 {
     match slices {
         Outcome::Refused { .. } => MarkedGradient {

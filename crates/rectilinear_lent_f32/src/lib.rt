@@ -89,7 +89,8 @@ pub fn interp_one_grad(
     mode: EdgeMode,
     x: [f32; 4],
 ) -> MarkedGradientF32
-    ensures { λ r. ⌜ GradientOn binary32 (lent slices (gridOf binary32 «axis_count» counts (now (axes .entry)) (now (vals .entry)) mode)) x (r .answer .outcome) (r .answer .gradient) (r .marks) ⌝ }
+    ensures { λ r. ⌜ GradientOn binary32 (lent slices (gridOf binary32 «axis_count» counts (now (axes .entry)) (now (vals .entry)) mode)) x
+        (r .answer .outcome) (r .answer .gradient) (r .marks) ⌝ }
 {
     match slices {
         Outcome::Refused { .. } => MarkedGradientF32 {

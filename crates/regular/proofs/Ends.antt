@@ -50,4 +50,6 @@ pub same-marks : (f : Format) (n : ℕ) (axes : List Axis) (vals vals' : List Fl
     → markAnswer (gridOf f n axes vals mode) query ≡ markAnswer (gridOf f n axes vals' mode') query
 same-marks f n axes vals vals' mode mode' query e e' =
     marks-alike (gridOf f n axes vals mode) (gridOf f n axes vals' mode') query e e'
-    (marks-each (axisIn f mode) (axisIn f mode') (λ a x. edge-marks mode (λ straight. gridAxis f straight a) refl refl x ∙ sym (edge-marks mode' (λ straight. gridAxis f straight a) refl refl x)) 0 (take n axes) query)
+    (marks-each (axisIn f mode) (axisIn f mode')
+    (λ a x. edge-marks mode (λ straight. gridAxis f straight a) refl refl x ∙ sym (edge-marks mode' (λ straight. gridAxis f straight a) refl refl x))
+    0 (take n axes) query)

@@ -25,6 +25,7 @@ module _ (f : Format) (n : ℕ) (counts : List ℕ) (starts steps vals : List Fl
     unfolding regularFrom
     lent-to refusal e = λ i. lent ((e ∙ ap (λ s. slicesOf n s refusal) (k ∙ ap (namedBy mode) m)) i) (gridOf f n (a i) vals (d i))
 
-    pub lent-to-query : (query refusal room need marks : ℕ) → slices ≡ querySlicesOf n named query refusal room need marks → lent slices (gridOf f n axes vals edge) ≡ lentToQuery (setBy (regularFrom f n counts starts steps vals) mode) query refusal room need marks
+    pub lent-to-query : (query refusal room need marks : ℕ) → slices ≡ querySlicesOf n named query refusal room need marks
+        → lent slices (gridOf f n axes vals edge) ≡ lentToQuery (setBy (regularFrom f n counts starts steps vals) mode) query refusal room need marks
     unfolding regularFrom
     lent-to-query query refusal room need marks e = λ i. lent ((e ∙ ap (λ s. querySlicesOf n s query refusal room need marks) (k ∙ ap (namedBy mode) m)) i) (gridOf f n (a i) vals (d i))

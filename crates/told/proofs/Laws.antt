@@ -35,5 +35,10 @@ pub left-by : {W : Type 0} {number : ℕ} {refusal : List ℕ} {written answer :
 left-by before p q e w = λ i. record { number = (p ∙ ap numberOf e) i; refusal = (q ∙ ap (λ o. told o before) e) i; written = w i }
 
 -- and the marks beside it
-pub left-marked : {W : Type 0} {number : ℕ} {refusal marks : List ℕ} {written answer : W} {o outcome : Outcome} (before : List ℕ) (n : ℕ) (pairs : List Marks) (old : List ℕ) → number ≡ numberOf o → refusal ≡ told o before → o ≡ outcome → written ≡ answer → marks ≡ withMarks o n pairs old → _≡_ {A = Leaves (W × List ℕ)} (record { number = number; refusal = refusal; written = (written, marks) }) (leavesMarked outcome before answer n pairs old)
-left-marked before n pairs old p q e w m = λ i. record { number = (p ∙ ap numberOf e) i; refusal = (q ∙ ap (λ o. told o before) e) i; written = (w i, (m ∙ ap (λ o. withMarks o n pairs old) e) i) }
+pub left-marked : {W : Type 0} {number : ℕ} {refusal marks : List ℕ} {written answer : W} {o outcome : Outcome}
+    (before : List ℕ) (n : ℕ) (pairs : List Marks) (old : List ℕ)
+    → number ≡ numberOf o → refusal ≡ told o before → o ≡ outcome → written ≡ answer → marks ≡ withMarks o n pairs old
+    → _≡_ {A = Leaves (W × List ℕ)} (record { number = number; refusal = refusal; written = (written, marks) }) (leavesMarked outcome before answer n pairs old)
+left-marked before n pairs old p q e w m =
+    let marks = m ∙ ap (λ o. withMarks o n pairs old) e in
+    λ i. record { number = (p ∙ ap numberOf e) i; refusal = (q ∙ ap (λ o. told o before) e) i; written = (w i, marks i) }

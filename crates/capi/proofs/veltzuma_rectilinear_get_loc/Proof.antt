@@ -11,9 +11,30 @@ use Rattle.capi.proofs.veltzuma_rectilinear_get_loc.Tie as tie
 told : tie.Need-returns
 unfolding rectilinearFrom
 told c =
-    let a = c .before .before .before .before .before .before .before .before .before .before .before .before .before .before .before .before .before .before .before .before .before .before .before .before .before .before .before .before .args in
-    let lent = lent-to-query binary64 (a .axis-count) (now (a .counts)) (now (a .axes)) (now (a .vals)) (c .before .before .before .before .before .before .before .before .before .before .before .before .before .before .before .before .counts-from .ensures) (a .mode) (c .before .before .before .before .before .before .before .before .before .before .before .before .before .before .mode-of .ensures) (c .before .before .before .before .before .before .before .before .before .before .before .before .before .before .before .before .before .before .before .named .ensures) _ _ _ _ _ (c .before .before .before .before .before .before .before .before .before .before .before .before .before .before .before .before .before .check-query-slices .ensures) in
-    get-loc-leaves (setBy (rectilinearFrom binary64 (a .axis-count) (now (a .counts)) (now (a .axes)) (now (a .vals))) (a .mode)) (now (a .x)) (now (a .refusal)) (now (a .marks)) (c .before .before .before .before .before .before .before .before .before .before .before .before .before .before .before .query-from .ensures) (now (a .origins)) (now (a .classes)) (c .before .before .before .before .before .before .before .before .before .before .before .before .before .before .before .before .before .before .least .ensures) lent (c .before .before .before .before .before .before .before .before .tell-places .ensures) (c .before .before .before .before .before .before .before .before .before .before .before .before .before .get-loc .ensures)
+    let tell = c .before .before .before .before .before .before .before .before in
+    let asked = tell .before .before .before .before .before in
+    let mode = asked .before in
+    let query = mode .before in
+    let counts = query .before in
+    let slices = counts .before in
+    let room = slices .before in
+    let named = room .before in
+    let a = named .before .before .before .before .before .before .before .before .before .args in
+    let lent = lent-to-query binary64 (a .axis-count) (now (a .counts)) (now (a .axes)) (now (a .vals))
+    (counts .counts-from .ensures) (a .mode) (mode .mode-of .ensures) (named .named .ensures)
+    _ _ _ _ _ (slices .check-query-slices .ensures) in
+    get-loc-leaves
+    (setBy (rectilinearFrom binary64 (a .axis-count) (now (a .counts)) (now (a .axes)) (now (a .vals))) (a .mode))
+    (now (a .x)) (now (a .refusal)) (now (a .marks)) (query .query-from .ensures) (now (a .origins)) (now (a .classes)) (room .least .ensures)
+    lent (tell .tell-places .ensures) (asked .get-loc .ensures)
 
 pub veltzuma-rectilinear-get-loc-spec : {M : Type 1} → statement M
-veltzuma-rectilinear-get-loc-spec = tie.close (tie.spec (λ c κs. tt) (λ c κs. tt) (λ c κs. tt) (λ c κs. tt) (λ c κs. tt) (λ c κs. tt) (λ c κs. tt) (λ c κs. tt) (λ c. c .before .before .before .before .before .before .before .before .tell-places .kept .1 .1 .0) (λ c. c .before .before .before .before .before .before .before .before .tell-places .kept .1 .1 .1 .0) (λ c. c .before .before .before .before .before .before .before .before .tell-places .kept .1 .1 .1 .1 .0) (λ c. c .before .before .before .before .before .before .before .before .tell-places .kept .1 .1 .1 .1 .1 .0) told)
+veltzuma-rectilinear-get-loc-spec =
+    tie.close
+    (tie.spec
+    (λ c κs. tt) (λ c κs. tt) (λ c κs. tt) (λ c κs. tt) (λ c κs. tt) (λ c κs. tt) (λ c κs. tt) (λ c κs. tt)
+    (λ c. c .before .before .before .before .before .before .before .before .tell-places .kept .1 .1 .0)
+    (λ c. c .before .before .before .before .before .before .before .before .tell-places .kept .1 .1 .1 .0)
+    (λ c. c .before .before .before .before .before .before .before .before .tell-places .kept .1 .1 .1 .1 .0)
+    (λ c. c .before .before .before .before .before .before .before .before .tell-places .kept .1 .1 .1 .1 .1 .0)
+    told)

@@ -11,9 +11,28 @@ use Rattle.capi.proofs.veltzuma_rectilinear_interp_one_grad.Tie as tie
 told : tie.Need-returns
 unfolding rectilinearFrom
 told c =
-    let a = c .before .before .before .before .before .before .before .before .before .before .before .before .before .before .before .before .before .before .before .before .before .before .before .args in
-    let lent = lent-to-query binary64 (a .axis-count) (now (a .counts)) (now (a .axes)) (now (a .vals)) (c .before .before .before .before .before .before .before .before .before .before .before .before .before .counts-from .ensures) (a .mode) (c .before .before .before .before .before .before .before .before .before .before .before .mode-of .ensures) (c .before .before .before .before .before .before .before .before .before .before .before .before .before .before .before .named .ensures) _ _ _ _ _ (c .before .before .before .before .before .before .before .before .before .before .before .before .before .before .check-query-slices .ensures) in
-    interp-one-grad-leaves (setBy (rectilinearFrom binary64 (a .axis-count) (now (a .counts)) (now (a .axes)) (now (a .vals))) (a .mode)) (now (a .x)) (now (a .refusal)) (now (a .marks)) (c .before .before .before .before .before .before .before .before .before .before .before .before .query-from .ensures) binary64 (now (a .gradient)) lent (c .before .before .before .before .before .before .tell-gradient .ensures) (c .before .before .before .before .before .before .before .before .before .before .interp-one-grad .ensures)
+    let tell = c .before .before .before .before .before .before in
+    let asked = tell .before .before .before .before in
+    let mode = asked .before in
+    let query = mode .before in
+    let counts = query .before in
+    let slices = counts .before in
+    let named = slices .before in
+    let a = named .before .before .before .before .before .before .before .before .args in
+    let lent = lent-to-query binary64 (a .axis-count) (now (a .counts)) (now (a .axes)) (now (a .vals))
+    (counts .counts-from .ensures) (a .mode) (mode .mode-of .ensures) (named .named .ensures)
+    _ _ _ _ _ (slices .check-query-slices .ensures) in
+    interp-one-grad-leaves
+    (setBy (rectilinearFrom binary64 (a .axis-count) (now (a .counts)) (now (a .axes)) (now (a .vals))) (a .mode))
+    (now (a .x)) (now (a .refusal)) (now (a .marks)) (query .query-from .ensures) binary64 (now (a .gradient))
+    lent (tell .tell-gradient .ensures) (asked .interp-one-grad .ensures)
 
 pub veltzuma-rectilinear-interp-one-grad-spec : {M : Type 1} → statement M
-veltzuma-rectilinear-interp-one-grad-spec = tie.close (tie.spec (λ c κs. tt) (λ c κs. tt) (λ c κs. tt) (λ c κs. tt) (λ c κs. tt) (λ c κs. tt) (λ c κs. tt) (λ c. c .before .before .before .before .before .before .tell-gradient .kept .1 .1 .0) (λ c. c .before .before .before .before .before .before .tell-gradient .kept .1 .1 .1 .0) (λ c. c .before .before .before .before .before .before .tell-gradient .kept .1 .1 .1 .1 .0) told)
+veltzuma-rectilinear-interp-one-grad-spec =
+    tie.close
+    (tie.spec
+    (λ c κs. tt) (λ c κs. tt) (λ c κs. tt) (λ c κs. tt) (λ c κs. tt) (λ c κs. tt) (λ c κs. tt)
+    (λ c. c .before .before .before .before .before .before .tell-gradient .kept .1 .1 .0)
+    (λ c. c .before .before .before .before .before .before .tell-gradient .kept .1 .1 .1 .0)
+    (λ c. c .before .before .before .before .before .before .tell-gradient .kept .1 .1 .1 .1 .0)
+    told)

@@ -11,9 +11,28 @@ use Rattle.capi_f32.proofs.veltzuma_rectilinear_interp_one_f32.Tie as t
 told : tie.Need-returns
 unfolding rectilinearFrom
 told c =
-    let a = c .before .before .before .before .before .before .before .before .before .before .before .before .before .before .before .before .before .before .before .before .before .before .before .args in
-    let lent = lent-to-query binary32 (a .axis-count) (now (a .counts)) (now (a .axes)) (now (a .vals)) (c .before .before .before .before .before .before .before .before .before .before .before .before .before .counts-from .ensures) (a .mode) (c .before .before .before .before .before .before .before .before .before .before .before .mode-of .ensures) (c .before .before .before .before .before .before .before .before .before .before .before .before .before .before .before .named .ensures) _ _ _ _ _ (c .before .before .before .before .before .before .before .before .before .before .before .before .before .before .check-query-slices .ensures) in
-    interp-one-leaves (setBy (rectilinearFrom binary32 (a .axis-count) (now (a .counts)) (now (a .axes)) (now (a .vals))) (a .mode)) (now (a .x)) (now (a .refusal)) (now (a .marks)) (c .before .before .before .before .before .before .before .before .before .before .before .before .query-from .ensures) binary32 (now (a .value)) lent (c .before .before .before .before .before .before .tell-value .ensures) (c .before .before .before .before .before .before .before .before .before .before .interp-one .ensures)
+    let tell = c .before .before .before .before .before .before in
+    let asked = tell .before .before .before .before in
+    let mode = asked .before in
+    let query = mode .before in
+    let counts = query .before in
+    let slices = counts .before in
+    let named = slices .before in
+    let a = named .before .before .before .before .before .before .before .before .args in
+    let lent = lent-to-query binary32 (a .axis-count) (now (a .counts)) (now (a .axes)) (now (a .vals))
+    (counts .counts-from .ensures) (a .mode) (mode .mode-of .ensures) (named .named .ensures)
+    _ _ _ _ _ (slices .check-query-slices .ensures) in
+    interp-one-leaves
+    (setBy (rectilinearFrom binary32 (a .axis-count) (now (a .counts)) (now (a .axes)) (now (a .vals))) (a .mode))
+    (now (a .x)) (now (a .refusal)) (now (a .marks)) (query .query-from .ensures) binary32 (now (a .value))
+    lent (tell .tell-value .ensures) (asked .interp-one .ensures)
 
 pub veltzuma-rectilinear-interp-one-f32-spec : {M : Type 1} → statement M
-veltzuma-rectilinear-interp-one-f32-spec = tie.close (tie.spec (λ c κs. tt) (λ c κs. tt) (λ c κs. tt) (λ c κs. tt) (λ c κs. tt) (λ c κs. tt) (λ c κs. tt) (λ c. c .before .before .before .before .before .before .tell-value .kept .1 .1 .0) (λ c. c .before .before .before .before .before .before .tell-value .kept .1 .1 .1 .0) (λ c. c .before .before .before .before .before .before .tell-value .kept .1 .1 .1 .1 .0) told)
+veltzuma-rectilinear-interp-one-f32-spec =
+    tie.close
+    (tie.spec
+    (λ c κs. tt) (λ c κs. tt) (λ c κs. tt) (λ c κs. tt) (λ c κs. tt) (λ c κs. tt) (λ c κs. tt)
+    (λ c. c .before .before .before .before .before .before .tell-value .kept .1 .1 .0)
+    (λ c. c .before .before .before .before .before .before .tell-value .kept .1 .1 .1 .0)
+    (λ c. c .before .before .before .before .before .before .tell-value .kept .1 .1 .1 .1 .0)
+    told)

@@ -11,9 +11,31 @@ use Rattle.capi_f32.proofs.veltzuma_regular_get_loc_f32.Tie as tie
 told : tie.Need-returns
 unfolding regularFrom
 told c =
-    let a = c .before .before .before .before .before .before .before .before .before .before .before .before .before .before .before .before .before .before .before .before .before .before .before .before .before .before .before .before .before .before .args in
-    let lent = lent-to-query binary32 (a .axis-count) (now (a .counts)) (now (a .starts)) (now (a .steps)) (now (a .vals)) (c .before .before .before .before .before .before .before .before .before .before .before .before .before .before .before .before .axes-from .ensures) (a .mode) (c .before .before .before .before .before .before .before .before .before .before .before .before .before .before .mode-of .ensures) (c .before .before .before .before .before .before .before .before .before .before .before .before .before .before .before .before .before .before .before .named .ensures) (c .before .before .before .before .before .before .before .before .before .before .before .before .before .before .before .before .before .before .before .before .shortest-of .ensures) _ _ _ _ _ (c .before .before .before .before .before .before .before .before .before .before .before .before .before .before .before .before .before .check-query-slices .ensures) in
-    get-loc-leaves (setBy (regularFrom binary32 (a .axis-count) (now (a .counts)) (now (a .starts)) (now (a .steps)) (now (a .vals))) (a .mode)) (now (a .x)) (now (a .refusal)) (now (a .marks)) (c .before .before .before .before .before .before .before .before .before .before .before .before .before .before .before .query-from .ensures) (now (a .origins)) (now (a .classes)) (c .before .before .before .before .before .before .before .before .before .before .before .before .before .before .before .before .before .before .least .ensures) lent (c .before .before .before .before .before .before .before .before .tell-places .ensures) (c .before .before .before .before .before .before .before .before .before .before .before .before .before .get-loc .ensures)
+    let tell = c .before .before .before .before .before .before .before .before in
+    let asked = tell .before .before .before .before .before in
+    let mode = asked .before in
+    let query = mode .before in
+    let axes = query .before in
+    let slices = axes .before in
+    let room = slices .before in
+    let named = room .before in
+    let shortest = named .before in
+    let a = shortest .before .before .before .before .before .before .before .before .before .before .args in
+    let lent = lent-to-query binary32 (a .axis-count) (now (a .counts)) (now (a .starts)) (now (a .steps)) (now (a .vals))
+    (axes .axes-from .ensures) (a .mode) (mode .mode-of .ensures) (named .named .ensures) (shortest .shortest-of .ensures)
+    _ _ _ _ _ (slices .check-query-slices .ensures) in
+    get-loc-leaves
+    (setBy (regularFrom binary32 (a .axis-count) (now (a .counts)) (now (a .starts)) (now (a .steps)) (now (a .vals))) (a .mode))
+    (now (a .x)) (now (a .refusal)) (now (a .marks)) (query .query-from .ensures) (now (a .origins)) (now (a .classes)) (room .least .ensures)
+    lent (tell .tell-places .ensures) (asked .get-loc .ensures)
 
 pub veltzuma-regular-get-loc-f32-spec : {M : Type 1} → statement M
-veltzuma-regular-get-loc-f32-spec = tie.close (tie.spec (λ c κs. tt) (λ c κs. tt) (λ c κs. tt) (λ c κs. tt) (λ c κs. tt) (λ c κs. tt) (λ c κs. tt) (λ c κs. tt) (λ c κs. tt) (λ c. c .before .before .before .before .before .before .before .before .tell-places .kept .1 .1 .0) (λ c. c .before .before .before .before .before .before .before .before .tell-places .kept .1 .1 .1 .0) (λ c. c .before .before .before .before .before .before .before .before .tell-places .kept .1 .1 .1 .1 .0) (λ c. c .before .before .before .before .before .before .before .before .tell-places .kept .1 .1 .1 .1 .1 .0) told)
+veltzuma-regular-get-loc-f32-spec =
+    tie.close
+    (tie.spec
+    (λ c κs. tt) (λ c κs. tt) (λ c κs. tt) (λ c κs. tt) (λ c κs. tt) (λ c κs. tt) (λ c κs. tt) (λ c κs. tt) (λ c κs. tt)
+    (λ c. c .before .before .before .before .before .before .before .before .tell-places .kept .1 .1 .0)
+    (λ c. c .before .before .before .before .before .before .before .before .tell-places .kept .1 .1 .1 .0)
+    (λ c. c .before .before .before .before .before .before .before .before .tell-places .kept .1 .1 .1 .1 .0)
+    (λ c. c .before .before .before .before .before .before .before .before .tell-places .kept .1 .1 .1 .1 .1 .0)
+    told)

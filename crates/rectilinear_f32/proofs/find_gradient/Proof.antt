@@ -25,14 +25,16 @@ returns : tie.Need-returns
 unfolding ofBits
 returns c =
     let a = c .before .before .before .before .before .args in
-    let w = gradient-refused binary32 (gridOf binary32 (a .axis-count) (a .counts) (now (a .axes)) (now (a .vals)) (a .mode)) (a .x) _ _ _ (sym (c .before .before .new .ensures .0) ∙ c .enum-told .given .1) in
+    let w = gradient-refused binary32 (gridOf binary32 (a .axis-count) (a .counts) (now (a .axes)) (now (a .vals)) (a .mode)) (a .x) _ _ _
+    (sym (c .before .before .new .ensures .0) ∙ c .enum-told .given .1) in
     both-say (c .before .before .new .ensures .0 ∙ w .0, w .1)
 
 returns-2 : tie.Need-returns-2
 returns-2 c =
     let a = c .before .before .before .before .before .before .before .args in
     let w = c .gradient-at .ensures in
-    both-say (gradient-single binary32 (gridOf binary32 (a .axis-count) (a .counts) (now (a .axes)) (now (a .vals)) (a .mode)) (a .x) _ _ (sym (c .before .before .before .before .new .ensures .0) ∙ c .before .before .enum-told2 .given .1) (w .0) (w .1))
+    both-say (gradient-single binary32 (gridOf binary32 (a .axis-count) (a .counts) (now (a .axes)) (now (a .vals)) (a .mode)) (a .x) _ _
+    (sym (c .before .before .before .before .new .ensures .0) ∙ c .before .before .enum-told2 .given .1) (w .0) (w .1))
 
 pub find-gradient-spec : {M : Type 1} → statement M
 find-gradient-spec =

@@ -67,11 +67,20 @@ loop-again c =
     let l = c .before .before .before in
     let a = l .before .before .before .args in
     let h = c .before .before .loop-test .taken in
-    let inside : (mode : EdgeMode) → l .loop .i < length (axesIn binary64 mode (a .axis-count) (a .t2) (now (a .axes))) = λ mode. rw (fit binary64 mode (l .loop .inv .2) (l .loop .inv .5) .counted) h in
+    let inside : (mode : EdgeMode) → l .loop .i < length (axesIn binary64 mode (a .axis-count) (a .t2) (now (a .axes))) =
+    λ mode. rw (fit binary64 mode (l .loop .inv .2) (l .loop .inv .5) .counted) h in
     let own : (mode : EdgeMode) → c .marks-at .result ≡ marksAt (getD (axesIn binary64 mode (a .axis-count) (a .t2) (now (a .axes))) (l .loop .i) noGridAxis) (at (a .t4) (l .loop .i)) =
     λ mode. marks-by mode (λ straight. gridAxis binary64 straight (entries l h)) refl refl (getD (a .t4) (l .loop .i) nan) (c .marks-at .result) (c .marks-at .ensures .0) (c .marks-at .ensures .1)
-    ∙ ap (λ (g : GridAxis). marksAt g (getD (a .t4) (l .loop .i) nan)) (axis-is binary64 mode (l .loop .inv .2) (l .loop .inv .5) (l .loop .i) h (l .loop .start) (l .loop .inv .6)) in
-    (omega arith, l .loop .inv .1, l .loop .inv .2, l .loop .inv .3, rw length-set (l .loop .inv .4), l .loop .inv .5, omega (arith, l .loop .inv .6, sum-next (a .t2) (l .loop .i)), λ mode. marking-turn (l .loop .inv .7 mode) (inside mode) (omega arith) _ (own mode))
+    ∙ ap (λ (g : GridAxis). marksAt g (getD (a .t4) (l .loop .i) nan)) (axis-is binary64 mode (l .loop .inv .2) (l .loop .inv .5) (l .loop .i) h (l .loop .start) (l .loop .inv .6)) in (
+      omega arith,
+      l .loop .inv .1,
+      l .loop .inv .2,
+      l .loop .inv .3,
+      rw length-set (l .loop .inv .4),
+      l .loop .inv .5,
+      omega (arith, l .loop .inv .6, sum-next (a .t2) (l .loop .i)),
+      λ mode. marking-turn (l .loop .inv .7 mode) (inside mode) (omega arith) _ (own mode),
+    )
 
 returns : tie.Need-returns Inv-loop μ-loop
 returns c mode =

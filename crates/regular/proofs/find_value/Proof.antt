@@ -26,12 +26,16 @@ answer-at-requires c κs =
 returns : tie.Need-returns
 returns c =
     let a = c .before .before .before .before .before .args in
-    value-says binary64 (gridOf binary64 (a .axis-count) (a .axes) (now (a .vals)) (a .mode)) (a .t5) (c .answered .ensures ∙ value-refused binary64 (gridOf binary64 (a .axis-count) (a .axes) (now (a .vals)) (a .mode)) (a .t5) _ _ (c .before .before .before .new .ensures .0) (c .before .enum-told .given .1))
+    value-says binary64 (gridOf binary64 (a .axis-count) (a .axes) (now (a .vals)) (a .mode)) (a .t5)
+    (c .answered .ensures ∙ value-refused binary64 (gridOf binary64 (a .axis-count) (a .axes) (now (a .vals)) (a .mode)) (a .t5) _ _
+    (c .before .before .before .new .ensures .0) (c .before .enum-told .given .1))
 
 returns-2 : tie.Need-returns-2
 returns-2 c =
     let a = c .before .before .before .before .before .before .before .before .args in
-    value-says binary64 (gridOf binary64 (a .axis-count) (a .axes) (now (a .vals)) (a .mode)) (a .t5) (c .answer-at .ensures ∙ value-single binary64 (gridOf binary64 (a .axis-count) (a .axes) (now (a .vals)) (a .mode)) (a .t5) (sym (c .before .before .before .before .before .before .new .ensures .0) ∙ c .before .before .before .before .enum-told2 .given .1))
+    value-says binary64 (gridOf binary64 (a .axis-count) (a .axes) (now (a .vals)) (a .mode)) (a .t5)
+    (c .answer-at .ensures ∙ value-single binary64 (gridOf binary64 (a .axis-count) (a .axes) (now (a .vals)) (a .mode)) (a .t5)
+    (sym (c .before .before .before .before .before .before .new .ensures .0) ∙ c .before .before .before .before .enum-told2 .given .1))
 
 pub find-value-spec : {M : Type 1} → statement M
 find-value-spec =

@@ -14,13 +14,23 @@ use Rattle.regular.proofs.interp_one.Tie as tie
 marks-of-requires : tie.Need-marks-of-requires
 marks-of-requires c κs =
     let a = c .before .before .before .args in
-    λ e. record { values = _; checked = checked-first (gridOf binary64 (a .axis-count) (a .axes) (now (a .vals)) (a .mode)) (at (a .x)) _ (c .outcome-of .ensures ∙ ap answerOutcome (c .before .find-value .ensures .0) ∙ outcome-of _ _) e }
+    λ e. record {
+      values = _;
+      checked = checked-first (gridOf binary64 (a .axis-count) (a .axes) (now (a .vals)) (a .mode)) (at (a .x)) _
+          (c .outcome-of .ensures ∙ ap answerOutcome (c .before .find-value .ensures .0) ∙ outcome-of _ _) e;
+    }
 
 returns : tie.Need-returns
 returns c =
     let a = c .before .before .before .before .args in
-    let w = c .before .before .find-value .ensures in
-    (w .0, (marks-beside (gridOf binary64 (a .axis-count) (a .axes) (now (a .vals)) (a .mode)) (at (a .x)) _ _ (c .before .outcome-of .ensures ∙ ap answerOutcome (w .0) ∙ outcome-of _ _) (c .marks-of .ensures (a .mode)), w .1))
+    let w = c .before .before .find-value .ensures in (
+      w .0,
+      (
+        marks-beside (gridOf binary64 (a .axis-count) (a .axes) (now (a .vals)) (a .mode)) (at (a .x)) _ _
+            (c .before .outcome-of .ensures ∙ ap answerOutcome (w .0) ∙ outcome-of _ _) (c .marks-of .ensures (a .mode)),
+        w .1,
+      ),
+    )
 
 pub interp-one-spec : {M : Type 1} → statement M
 interp-one-spec = tie.close (tie.spec (λ c κs. search needs) (λ c κs. search needs) marks-of-requires returns)

@@ -19,7 +19,8 @@ strides-requires c κs =
 gradient-at-requires : tie.Need-gradient-at-requires
 gradient-at-requires c κs =
     let a = c .before .before .before .before .before .before .args in
-    ready-by (a .axis-count) (a .axes) (length (now (a .vals))) (sym (c .before .before .before .before .new .ensures .0) ∙ c .before .before .enum-told2 .given .1) _ (c .before .counts-of .ensures) _ (c .strides .ensures)
+    ready-by (a .axis-count) (a .axes) (length (now (a .vals)))
+    (sym (c .before .before .before .before .new .ensures .0) ∙ c .before .before .enum-told2 .given .1) _ (c .before .counts-of .ensures) _ (c .strides .ensures)
 
 returns : tie.Need-returns
 unfolding ofBits
@@ -32,7 +33,8 @@ returns-2 : tie.Need-returns-2
 returns-2 c =
     let a = c .before .before .before .before .before .before .before .args in
     let w = c .gradient-at .ensures in
-    both-say (gradient-single binary32 (gridOf binary32 (a .axis-count) (a .axes) (now (a .vals)) (a .mode)) (a .x) _ _ (sym (c .before .before .before .before .before .new .ensures .0) ∙ c .before .before .before .enum-told2 .given .1) (w .0) (w .1))
+    both-say (gradient-single binary32 (gridOf binary32 (a .axis-count) (a .axes) (now (a .vals)) (a .mode)) (a .x) _ _
+    (sym (c .before .before .before .before .before .new .ensures .0) ∙ c .before .before .before .enum-told2 .given .1) (w .0) (w .1))
 
 pub find-gradient-spec : {M : Type 1} → statement M
 find-gradient-spec =

@@ -14,7 +14,8 @@ turned-away : tie.Need-returns
 unfolding ofBits
 turned-away c =
     let a = c .before .before .before .before .before .before .args in
-    let away = refused-value (gridOf binary64 (a .axis-count) (a .axes) (now (a .vals)) (a .mode)) (c .before .before .new .ensures) (c .before .before .before .enum-told .given .1) (a .x) binary64 zero in
+    let away = refused-value (gridOf binary64 (a .axis-count) (a .axes) (now (a .vals)) (a .mode)) (c .before .before .new .ensures)
+    (c .before .before .before .enum-told .given .1) (a .x) binary64 zero in
     (c .before .answered .ensures ∙ away .0, c .unmarked .ensures ∙ away .1)
 
 let-through : tie.Need-returns-2

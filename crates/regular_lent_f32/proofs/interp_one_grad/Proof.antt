@@ -19,8 +19,11 @@ turned-away c =
 let-through : tie.Need-returns-2
 let-through c =
     let a = c .before .before .before .before .args in
-    let grid = whole (gridOf binary32 (a .axis-count) (a .axes) (now (a .vals)) (a .mode)) (c .before .enum-told2 .given .1) in
-    (c .interp-one-grad .ensures .0 ∙ (λ i. outcomeOf (grid i) (at (a .x))), c .interp-one-grad .ensures .1 .0 ∙ (λ i. gradientAnswer binary32 (grid i) (at (a .x))), c .interp-one-grad .ensures .1 .1 .0 ∙ (λ i. markAnswer (grid i) (at (a .x))))
+    let grid = whole (gridOf binary32 (a .axis-count) (a .axes) (now (a .vals)) (a .mode)) (c .before .enum-told2 .given .1) in (
+      c .interp-one-grad .ensures .0 ∙ (λ i. outcomeOf (grid i) (at (a .x))),
+      c .interp-one-grad .ensures .1 .0 ∙ (λ i. gradientAnswer binary32 (grid i) (at (a .x))),
+      c .interp-one-grad .ensures .1 .1 .0 ∙ (λ i. markAnswer (grid i) (at (a .x))),
+    )
 
 pub interp-one-grad-spec : {M : Type 1} → statement M
 interp-one-grad-spec = tie.close (tie.spec (λ c. search needs) (λ c κs. tt) (λ c κs. tt) (λ c. search needs) (λ c κs. tt) turned-away let-through)

@@ -49,9 +49,17 @@ loop-again c =
     let h = c .before .before .loop-test .taken in
     let inside : (mode : EdgeMode) → l .loop .i < length (axesIn binary32 mode (a .axis-count) (a .t2)) = λ mode. rw (fit binary32 mode (l .loop .inv .2) (l .loop .inv .5) .counted) h in
     let own : (mode : EdgeMode) → c .marks-at .result ≡ marksAt (getD (axesIn binary32 mode (a .axis-count) (a .t2)) (l .loop .i) noGridAxis) (at (a .t3) (l .loop .i)) =
-    λ mode. marks-by mode (λ straight. gridAxis binary32 straight (getD (a .t2) (l .loop .i) noAxis)) refl refl (getD (a .t3) (l .loop .i) nan) (c .marks-at .result) (c .marks-at .ensures .0) (c .marks-at .ensures .1)
-    ∙ ap (λ (g : GridAxis). marksAt g (getD (a .t3) (l .loop .i) nan)) (axis-is binary32 mode (l .loop .inv .2) (l .loop .inv .5) (l .loop .i) h) in
-    (omega arith, l .loop .inv .1, l .loop .inv .2, l .loop .inv .3, rw length-set (l .loop .inv .4), l .loop .inv .5, λ mode. marking-turn (l .loop .inv .6 mode) (inside mode) (omega arith) _ (own mode))
+    λ mode. marks-by mode (λ straight. gridAxis binary32 straight (getD (a .t2) (l .loop .i) noAxis)) refl refl (getD (a .t3) (l .loop .i) nan)
+    (c .marks-at .result) (c .marks-at .ensures .0) (c .marks-at .ensures .1)
+    ∙ ap (λ (g : GridAxis). marksAt g (getD (a .t3) (l .loop .i) nan)) (axis-is binary32 mode (l .loop .inv .2) (l .loop .inv .5) (l .loop .i) h) in (
+      omega arith,
+      l .loop .inv .1,
+      l .loop .inv .2,
+      l .loop .inv .3,
+      rw length-set (l .loop .inv .4),
+      l .loop .inv .5,
+      λ mode. marking-turn (l .loop .inv .6 mode) (inside mode) (omega arith) _ (own mode),
+    )
 
 returns : tie.Need-returns Inv-loop μ-loop
 returns c mode =

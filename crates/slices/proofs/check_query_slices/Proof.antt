@@ -10,14 +10,19 @@ use Rattle.slices.proofs.check_query_slices.Tie as tie
 missing : tie.Need-returns
 missing c =
     let a = c .before .before .before .before .before .before .args in
-    let first : slicesOf (a .axis-count) (min (a .shortest) (a .query)) (a .refusal) ≡ _ = ap (λ m. slicesOf (a .axis-count) m (a .refusal)) (sym (c .before .before .before .before .before .least .ensures)) ∙ sym (c .before .before .before .before .check-slices .ensures) in
+    let first : slicesOf (a .axis-count) (min (a .shortest) (a .query)) (a .refusal) ≡ _ =
+    ap (λ m. slicesOf (a .axis-count) m (a .refusal)) (sym (c .before .before .before .before .before .least .ensures))
+    ∙ sym (c .before .before .before .before .check-slices .ensures) in
     c .refused .ensures ∙ no-room (a .axis-count) (a .shortest) (a .query) (a .refusal) (a .room) (a .need) (a .marks) (first ∙ c .before .before .enum-told2 .given .1) (c .before .if1 .taken)
 
 unmarkable : tie.Need-returns-2
 unmarkable c =
     let a = c .before .before .before .before .before .before .before .args in
-    let first : slicesOf (a .axis-count) (min (a .shortest) (a .query)) (a .refusal) ≡ _ = ap (λ m. slicesOf (a .axis-count) m (a .refusal)) (sym (c .before .before .before .before .before .before .least .ensures)) ∙ sym (c .before .before .before .before .before .check-slices .ensures) in
-    c .refused2 .ensures ∙ no-marks (a .axis-count) (a .shortest) (a .query) (a .refusal) (a .room) (a .need) (a .marks) (first ∙ c .before .before .before .enum-told2 .given .1) (c .before .before .if1 .left) (c .before .if2 .taken)
+    let first : slicesOf (a .axis-count) (min (a .shortest) (a .query)) (a .refusal) ≡ _ =
+    ap (λ m. slicesOf (a .axis-count) m (a .refusal)) (sym (c .before .before .before .before .before .before .least .ensures))
+    ∙ sym (c .before .before .before .before .before .check-slices .ensures) in
+    c .refused2 .ensures ∙ no-marks (a .axis-count) (a .shortest) (a .query) (a .refusal) (a .room) (a .need) (a .marks)
+    (first ∙ c .before .before .before .enum-told2 .given .1) (c .before .before .if1 .left) (c .before .if2 .taken)
 
 short : tie.Need-returns-3
 unfolding querySlicesOf
@@ -29,8 +34,11 @@ short c =
 long : tie.Need-returns-4
 long c =
     let a = c .before .before .before .before .before .before .args in
-    let first : slicesOf (a .axis-count) (min (a .shortest) (a .query)) (a .refusal) ≡ _ = ap (λ m. slicesOf (a .axis-count) m (a .refusal)) (sym (c .before .before .before .before .before .least .ensures)) ∙ sym (c .before .before .before .before .check-slices .ensures) in
-    c .before .before .enum-told2 .given .1 ∙ roomy (a .axis-count) (a .shortest) (a .query) (a .refusal) (a .room) (a .need) (a .marks) (first ∙ c .before .before .enum-told2 .given .1) (c .before .if1 .left) (c .if2 .left)
+    let first : slicesOf (a .axis-count) (min (a .shortest) (a .query)) (a .refusal) ≡ _ =
+    ap (λ m. slicesOf (a .axis-count) m (a .refusal)) (sym (c .before .before .before .before .before .least .ensures))
+    ∙ sym (c .before .before .before .before .check-slices .ensures) in
+    c .before .before .enum-told2 .given .1 ∙ roomy (a .axis-count) (a .shortest) (a .query) (a .refusal) (a .room) (a .need) (a .marks)
+    (first ∙ c .before .before .enum-told2 .given .1) (c .before .if1 .left) (c .if2 .left)
 
 pub check-query-slices-spec : {M : Type 1} → statement M
 check-query-slices-spec = tie.close (tie.spec (λ c κs. tt) (λ c κs. tt) (λ c. search needs) (λ c. search needs) (λ c κs. tt) missing (λ c κs. tt) unmarkable short long)

@@ -22,8 +22,15 @@ loop-again : tie.Need-loop-again Inv-loop μ-loop
 loop-again c =
     let l = c .before .before .before .before .before .before .before .loop in
     let a = c .before .before .before .before .before .before .before .before .before .before .args in
-    let four : length (markNumbers (a .t3)) ≡ 4 = length-map (a .t3) markNumber ∙ l .inv .2 in
-    (omega arith, l .inv .1, l .inv .2, c .before .before .put-byte .kept .0 ∙ l .inv .3, over-next (markNumbers (a .t3)) (a .marks .now) 0 (l .i) (omega arith) (l .inv .4) (c .before .before .before .mark-number .ensures ∙ sym (List·getD-map markNumber (a .t3) (l .i) unmarked)) (c .before .before .put-byte .ensures))
+    let four : length (markNumbers (a .t3)) ≡ 4 = length-map (a .t3) markNumber ∙ l .inv .2 in (
+      omega arith,
+      l .inv .1,
+      l .inv .2,
+      c .before .before .put-byte .kept .0 ∙ l .inv .3,
+      over-next (markNumbers (a .t3)) (a .marks .now) 0 (l .i) (omega arith) (l .inv .4)
+          (c .before .before .before .mark-number .ensures ∙ sym (List·getD-map markNumber (a .t3) (l .i) unmarked))
+          (c .before .before .put-byte .ensures),
+    )
 
 returns : tie.Need-returns Inv-loop μ-loop
 returns c =
@@ -33,4 +40,5 @@ returns c =
     over-end (markNumbers (a .t3)) (a .marks .now) (entriesOf (a .outcome) (a .n)) (length-map (a .t3) markNumber ∙ l .inv .2) (e ∙ c .before .before .entries .ensures) (l .inv .4)
 
 pub put-marks-spec : {M : Type 1} → statement M
-put-marks-spec = tie.close (tie.spec Inv-loop μ-loop (λ c κs. tt) loop-holds (λ c. omega arith) (λ c. omega arith) (λ c κs. tt) (λ c κs. tt) (λ c. omega arith) (λ c. omega arith) loop-again (λ c. c .before .loop .inv .3) returns)
+put-marks-spec = tie.close (tie.spec Inv-loop μ-loop (λ c κs. tt) loop-holds (λ c. omega arith) (λ c. omega arith) (λ c κs. tt) (λ c κs. tt)
+    (λ c. omega arith) (λ c. omega arith) loop-again (λ c. c .before .loop .inv .3) returns)

@@ -8,8 +8,12 @@ use Rattle.told.proofs.tell_gradient.Tie as tie
 
 returns : tie.Need-returns
 returns c =
-    let a = c .before .before .before .before .before .before .before .before .before .before .before .before .before .before .before .before .before .before .args in
-    left-marked {o = a .answer .answer .outcome} (now (a .refusal)) (a .n) (a .answer .marks) (now (a .marks)) (c .before .before .tell .ensures .0) (c .before .before .tell .ensures .1) refl (c .before .before .before .before .before .before .before .before .before .before .put-gradient .ensures) (c .before .before .before .before .before .before .put-marks .ensures)
+    let tell = c .before .before in
+    let marks = tell .before .before .before .before in
+    let gradient = marks .before .before .before .before in
+    let a = gradient .before .before .before .before .before .before .before .before .args in
+    left-marked {o = a .answer .answer .outcome} (now (a .refusal)) (a .n) (a .answer .marks) (now (a .marks)) (tell .tell .ensures .0) (tell .tell .ensures .1)
+    refl (gradient .put-gradient .ensures) (marks .put-marks .ensures)
 
 pub tell-gradient-spec : {M : Type 1} → statement M
 tell-gradient-spec = tie.close (tie.spec (λ c κs. tt) (λ c κs. tt) (λ c κs. tt) (λ c. search needs) (λ c. search needs) (λ c. search needs) returns)

@@ -8,9 +8,13 @@ use Rattle.told.proofs.tell_places.Tie as tie
 
 returns : tie.Need-returns
 returns c =
-    let a = c .before .before .before .before .before .before .before .before .before .before .before .before .before .before .before .before .before .before .before .before .before .before .args in
-    let written = c .before .before .before .before .before .before .before .before .before .before .before .before .put-places .ensures in
-    left-marked {o = a .answer .answer .outcome} (now (a .refusal)) (a .n) (a .answer .marks) (now (a .marks)) (c .before .before .tell .ensures .0) (c .before .before .tell .ensures .1) refl (λ i. (written .0 i, written .1 i)) (c .before .before .before .before .before .before .put-marks .ensures)
+    let tell = c .before .before in
+    let marks = tell .before .before .before .before in
+    let places = marks .before .before .before .before .before .before in
+    let a = places .before .before .before .before .before .before .before .before .before .before .args in
+    let written = places .put-places .ensures in
+    left-marked {o = a .answer .answer .outcome} (now (a .refusal)) (a .n) (a .answer .marks) (now (a .marks)) (tell .tell .ensures .0) (tell .tell .ensures .1)
+    refl (λ i. (written .0 i, written .1 i)) (marks .put-marks .ensures)
 
 pub tell-places-spec : {M : Type 1} → statement M
 tell-places-spec = tie.close (tie.spec (λ c κs. tt) (λ c κs. tt) (λ c κs. tt) (λ c. search needs) (λ c. search needs) (λ c. search needs) (λ c. search needs) returns)

@@ -8,8 +8,13 @@ use Rattle.told_f32.proofs.tell_value.Tie as tie
 
 returns : tie.Need-returns
 returns c =
-    let a = c .before .before .before .before .before .before .before .before .before .before .before .before .before .before .before .before .before .args in
-    left-marked (now (a .refusal)) (a .n) (a .answer .marks) (now (a .marks)) (c .before .before .tell .ensures .0) (c .before .before .tell .ensures .1) (c .before .before .before .before .before .before .before .before .before .before .before .before .before .outcome-of .ensures) (c .before .before .before .before .before .before .before .before .before .before .put-value .ensures) (c .before .before .before .before .before .before .put-marks .ensures)
+    let tell = c .before .before in
+    let marks = tell .before .before .before .before in
+    let value = marks .before .before .before .before in
+    let outcome = value .before .before .before in
+    let a = outcome .before .before .before .before .args in
+    left-marked (now (a .refusal)) (a .n) (a .answer .marks) (now (a .marks)) (tell .tell .ensures .0) (tell .tell .ensures .1)
+    (outcome .outcome-of .ensures) (value .put-value .ensures) (marks .put-marks .ensures)
 
 pub tell-value-spec : {M : Type 1} → statement M
 tell-value-spec = tie.close (tie.spec (λ c κs. tt) (λ c κs. tt) (λ c κs. tt) (λ c κs. tt) (λ c. search needs) (λ c. search needs) (λ c. search needs) returns)
