@@ -26,7 +26,7 @@ static void expect_mark(const char *what, uint8_t *mark, uint8_t expected) {
 }
 
 int main(void) {
-    /* First of all: calls of another version may take other arguments. */
+    /* First of all: calls of another version may take other arguments, or answer otherwise. */
     if (veltzuma_version() != VELTZUMA_VERSION) {
         printf("the archive is of version %u, the header of %u\n", (unsigned)veltzuma_version(), (unsigned)VELTZUMA_VERSION);
         return 1;
@@ -35,6 +35,7 @@ int main(void) {
     const size_t counts[1] = {4};
     const double starts[1] = {0.0}, steps[1] = {1.0}, vals[4] = {0.0, 1.0, 8.0, 27.0};
     const double inside[1] = {1.5}, outside[1] = {4.0}, under[1] = {-1.0}, last[1] = {3.0}, infinite[1] = {INFINITY};
+    const double missing[1] = {NAN};
     size_t refusal[2] = {9, 9}, origins[1];
     uint8_t classes[1], marks[1] = {UNTOUCHED};
     double value[1] = {0.0}, slope[1] = {0.0};
@@ -88,6 +89,8 @@ int main(void) {
     expect("number in a mode without a name",
            veltzuma_regular_interp_one(GRID, HELD + 1, inside, 1, refusal, 2, value, 1, marks, 1), 3);
     expect("number at infinity", veltzuma_regular_interp_one(GRID, CUBIC, infinite, 1, refusal, 2, value, 1, marks, 1), 8);
+    /* A missing reading is refused in every mode: no end is held in its place. */
+    expect("number of a missing reading", veltzuma_regular_interp_one(GRID, HELD, missing, 1, refusal, 2, value, 1, marks, 1), 9);
     expect("number with no room for a value",
            veltzuma_regular_interp_one(GRID, CUBIC, inside, 1, refusal, 2, NULL, 0, marks, 1), 7);
     expect("mark after these", marks[0], UNTOUCHED);

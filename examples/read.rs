@@ -2,7 +2,7 @@
 // past an end. Exits with 1 where an answer is not what docs/SPECIFICATION.md says.
 
 // The declarations are by hand, after include/veltzuma.h of this version.
-const VERSION: u32 = 2;
+const VERSION: u32 = 3;
 
 #[link(name = "capi", kind = "static")]
 unsafe extern "C" {
@@ -52,7 +52,7 @@ const NEITHER: u8 = 0;
 const ABOVE: u8 = 2;
 
 fn main() {
-    // First of all: calls of another version may take other arguments.
+    // First of all: calls of another version may take other arguments, or answer otherwise.
     let version = unsafe { veltzuma_version() };
     if version != VERSION {
         println!("the archive is of version {version}, the declarations of {VERSION}");

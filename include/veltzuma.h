@@ -1,7 +1,9 @@
-/* Veltzuma: value, gradient and place of a query on a cubic surface over a measured grid, for C. This header is of version 2.
- * Compile every program again with it: the declarations of versions before differ, and a call compiled with them hands over a
- * wild pointer where the marks go. Declarations by hand in other languages must follow. A program compares veltzuma_version()
- * with VELTZUMA_VERSION before its other calls; an archive of a version before has no such call, and does not link.
+/* Veltzuma: value, gradient and place of a query on a cubic surface over a measured grid, for C. This header is of version 3.
+ * Compile every program again with it. The declarations before version 2 differ, and a call compiled with them hands over a wild
+ * pointer where the marks go. Those of version 2 are the same, but its calls had no number 9: they gave 8 for a NaN on a regular
+ * axis, and answered one on a rectilinear axis, with NaN for the value. Declarations by hand in other languages must follow. A
+ * program compares veltzuma_version() with VELTZUMA_VERSION before its other calls; an archive before version 2 has no such call,
+ * and does not link.
  *
  * The archives are libcapi.a (`rt staticlib capi`) and, for single precision, libcapi_f32.a (`rt staticlib capi_f32`), for x86-64. Link them
  * as they are; they need no other library.
@@ -23,13 +25,19 @@
  *   6  rectilinear: an entry is NaN or below the one before it                     axis: the lowest such
  *   7  more than 1,048,576 queries; queries or out of a wrong length; or refusal, origins, classes, value, gradient or marks
  *      too short
- *   8  regular: a query has no place, since (query - start) / step is NaN, infinite, at least 2^63 or below -2^63
- *                                                                                  query: the lowest such; axis: its lowest
+ *   8  regular: a coordinate that is a number has no place, since (coordinate - start) / step is NaN, infinite, at least 2^63 or
+ *      below -2^63                                                                 query: the lowest refused; axis: its lowest
+ *   9  regular and rectilinear: a coordinate is NaN, a missing reading             query: the lowest refused; axis: its lowest
  *
- * The checks run in this order, each over all axes before the next. refusal[0] receives the query and refusal[1] the axis; both
- * are 0 where the table names none. On 7 nothing at all is written. value, gradient, origins, classes and marks are written on 0
- * alone: the first entry of value, the first axis_count entries of the others. On 8 a batch holds the answers of the queries before
- * the refused one; every other entry is as it was, a NaN's payload too. Which payload a NaN has that is an answer is not said.
+ * 1 to 7 are checked in this order, each over all axes before the next. Then each query in turn is looked at, axis by axis, on each
+ * axis for 9 and then for 8, and what is found first is told: on two regular axes 0, 1, 2, 3 that are not held, (2^63, NaN) is 8
+ * with axis 0, and (NaN, 2^63) is 9 with axis 0. Of x only the first axis_count coordinates are looked at. NaN among the values is
+ * not refused.
+ *
+ * refusal[0] receives the query and refusal[1] the axis; both are 0 where the table names none. On 7 nothing at all is written.
+ * value, gradient, origins, classes and marks are written on 0 alone: the first entry of value, the first axis_count entries of the
+ * others. On 8 and 9 a batch holds the answers of the queries before the refused one; every other entry is as it was, a NaN's
+ * payload too. Which payload a NaN has that is an answer is not said.
  *
  * A grid. axis_count is 1 to 4. counts holds the number of entries of each axis.
  *   regular      axis i has the entries starts[i] + steps[i] * k for k from 0 to counts[i] - 1
@@ -41,7 +49,7 @@
  *   1  straight  a straight line, as with the original's linearize_extrapolation
  *   2  held      level from the end on: a coordinate below the axis's first entry or above its last is replaced by that entry before
  *                anything else is done with it. Number 8 and the place that get_loc tells are then those of the query so used;
- *                the marks stay those of the query as given
+ *                the marks stay those of the query as given. A NaN is never replaced: it is 9 in every mode
  * A number above 2 names no mode, and nothing is answered in a mode that nobody named: it is refused with 3, looked at together
  * with slices that are too short. This 3 is ours, and not the mismatch of table 2.2 in docs/SPECIFICATION.md.
  *
@@ -49,10 +57,10 @@
  *
  * A mark says whether the query lies past an end of an axis: 0 neither, 1 below the first entry, 2 above the last. get_loc,
  * interp_one and interp_one_grad write one for each axis; the batches have none. It is of the query as given, in every mode.
- * Query and entries are compared as numbers, the entries of a regular axis as rounded: a query at an end has no mark, a NaN has
- * none, and an infinity that is answered has one where that end is finite. A mark is not a class: on the regular axis 0, 1, 2, 3
- * the query 3 has the class OutsideHigh and the mark 0; at the first entry of a rectilinear axis the class is OutsideLow, the
- * mark 0.
+ * Query and entries are compared as numbers, the entries of a regular axis as rounded: a query at an end has no mark, and an
+ * infinity that is answered has one where that end is finite. A NaN is refused, so it has none. A mark is not a class: on the
+ * regular axis 0, 1, 2, 3 the query 3 has the class OutsideHigh and the mark 0; at the first entry of a rectilinear axis the class
+ * is OutsideLow, the mark 0.
  *
  * The queries of a batch are joined columns: the coordinates of all queries on axis 0, then on axis 1. */
 #ifndef VELTZUMA_H
@@ -67,7 +75,7 @@ extern "C" {
 #endif
 
 /* The version that these declarations are of, and the one that the archive is of. */
-#define VELTZUMA_VERSION 2
+#define VELTZUMA_VERSION 3
 uint32_t veltzuma_version(void);
 
 #define VELTZUMA_REGULAR                                                                                                       \

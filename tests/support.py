@@ -159,6 +159,7 @@ def stand_in(folder, name, versions, symbols=True):
 
 # Libraries of another version, by the name of a file: what stand_in makes them of, and what is said of them.
 OTHERS = {'old.so': ({}, f'old.so has no version, so it is an older library, and version {VERSION} is needed'),
+          'before.so': ({'': VERSION - 1, '_f32': VERSION - 1}, f'before.so has version {VERSION - 1}, and version {VERSION} is needed'),
           'new.so': ({'': VERSION + 1, '_f32': VERSION + 1}, f'new.so has version {VERSION + 1}, and version {VERSION} is needed'),
           'half.so': ({'': VERSION, '_f32': VERSION - 1}, f'half.so has version {VERSION - 1} in f32, and version {VERSION} is needed'),
           'half_old.so': ({'': VERSION}, f'half_old.so has no version in f32, so it is an older library, and version {VERSION} is needed')}

@@ -178,7 +178,8 @@ class BadQueries(InFolder):
 
     def test_text(self):
         self.bad('1,two\n', 1, "'two' is not a number")
-        self.bad('1,2\n1,\n', 2, 'a coordinate is missing')
+        # Left empty, it is not a missing reading, which is written nan.
+        self.bad('1,2\n1,\n', 2, 'a field is empty')
         self.bad('1,"2,5"\n', 1, "'2,5' is not a number: numbers take a decimal point")
         self.bad('1,5;2,5\n', 1, 'a semicolon: commas stand between coordinates, and numbers take a decimal point')
         self.bad('1,1_000\n', 1, "'1_000' is not a number")
@@ -242,11 +243,17 @@ class BadCommands(InFolder):
         self.assertOneLine(run_process('check', LARGEST, VELTZUMA_LIBRARY=path), 2, f'the library cannot be loaded: {path} is not the library: it has no veltzuma_regular_new')
 
     def test_numbers_that_are_no_bad_input(self):
-        """nan and inf are numbers, and go to the library as they are."""
-        self.assertEqual(run('eval', self.write(GOOD), '--at', 'nan,inf', '-inf,NaN')[0], 0)
-        status, out, _ = run('eval', self.write(REGULAR), '--at', 'nan')
-        self.assertEqual(status, 1)
-        self.assertIn("refused 8 (unplaceable): axis 0 'flow': (nan - 0) / 1 is not a finite number", out)
+        """nan and inf go to the library as they are, and it is the library that refuses a query."""
+        self.assertEqual(run('eval', self.write(GOOD), '--at', 'inf,-inf')[0], 0)
+        status, out, err = run('eval', self.write(GOOD), '--at', 'nan,inf', '-inf,NaN')
+        self.assertEqual((status, err), (1, ''))
+        self.assertEqual([line.split(',')[-1] for line in out.split('\n')[1:-1]],
+                         ["refused 9 (missing): axis 0 'flow': no reading (nan)", "refused 9 (missing): axis 1 'heat': no reading (nan)"])
+        status, out, err = run('eval', self.write(REGULAR), '--at', '-nan', 'inf')
+        self.assertEqual((status, err), (1, ''))
+        self.assertEqual([line.split(',')[-1] for line in out.split('\n')[1:-1]],
+                         ["refused 9 (missing): axis 0 'flow': no reading (nan)",
+                          "refused 8 (unplaceable): axis 0 'flow': (inf - 0) / 1 is not a finite number from -2^63 to below 2^63"])
         self.assertEqual(run('check', self.write(GOOD.replace('\n1,2,', '\nnan,-inf,')))[0], 0)
 
 

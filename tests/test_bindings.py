@@ -2,6 +2,7 @@
 import array
 import copy
 import ctypes
+import functools
 import gc
 import itertools
 import json
@@ -94,24 +95,31 @@ class Calls(unittest.TestCase):
                 if out is not None:
                     # On refusal too: the answers before the refused query, and every other entry as it was.
                     self.assertTrue(same(out, rooms[0], width), name)
-        self.assertEqual(numbers, set(range(9)))
+        self.assertEqual(numbers, {0, *veltzuma.REFUSALS})
 
     def test_refusal(self):
-        for width in veltzuma.WIDTHS:
+        for width, (given, number, name) in itertools.product(veltzuma.WIDTHS, ((math.inf, 8, 'unplaceable'), (math.nan, 9, 'missing'))):
             grid = veltzuma.MulticubicRegular(*CUBE, width=width)
             out = array.array(CODE[width], [-1.0, -2.0, -3.0])
             told = None
             try:
-                grid.interp([1.5, math.inf, 1.5], out)
+                grid.interp([1.5, given, 1.5], out)
             except veltzuma.Refusal as refusal:
                 told = refusal
-            self.assertEqual((told.number, told.name, told.query, told.axis), (8, 'unplaceable', 1, 0))
-            self.assertEqual(str(told), 'refused 8 (unplaceable): query 1, axis 0')
+            self.assertEqual((told.number, told.name, told.query, told.axis), (number, name, 1, 0))
+            self.assertEqual(str(told), f'refused {number} ({name}): query 1, axis 0')
             self.assertEqual(out.tolist(), [3.375, -2.0, -3.0])
             # The buffer is the caller's again, though the exception is kept.
             out.append(1.0)
             for again in (pickle.loads(pickle.dumps(told)), copy.copy(told)):
-                self.assertEqual((again.number, again.query, again.axis, again.name), (8, 1, 0, 'unplaceable'))
+                self.assertEqual((again.number, again.query, again.axis, again.name), (number, 1, 0, name))
+
+    def test_numbers_of_the_documents(self):
+        """The header and the specification list these refusals and no others."""
+        listed = re.findall(r'^ \*   (\d+)  ', text_of(os.path.join(TOP, 'include', 'veltzuma.h')).split('A grid.')[0], re.M)
+        self.assertEqual([int(number) for number in listed], [0, *veltzuma.REFUSALS])
+        listed = re.findall(r'^  \| (\d+) \| ([a-z ]+) \|', text_of(os.path.join(TOP, 'docs', 'SPECIFICATION.md')), re.M)
+        self.assertEqual({int(number): name for number, name in listed}, veltzuma.REFUSALS)
 
     def test_version(self):
         made = veltzuma.load(LIBRARY).build
@@ -185,7 +193,7 @@ class MarksOfAnswers(unittest.TestCase):
             x, expected = [], []
             for first, last in ends(direct):
                 x.append(chosen.choice([first, last, *(beside(end, up, width) for end in (first, last) for up in (False, True)), chosen.uniform(first, last),
-                                        first - 3.0, last + 3.0, -0.0, -math.inf, math.inf, math.nan]))
+                                        first - 3.0, last + 3.0, -0.0, -math.inf, math.inf]))
                 given = array.array(CODE[width], x[-1:])[0]
                 expected.append('below' if given < first else 'above' if last < given else '')
             for mode in MODES:
@@ -203,9 +211,9 @@ class MarksOfAnswers(unittest.TestCase):
                    'held': [(-0.5, 'InsideLow', 'below'), (-inf, 'InsideLow', 'below'), (0, 'InsideLow', ''), (4, 'OutsideHigh', ''), (9, 'OutsideHigh', 'above'),
                             (inf, 'OutsideHigh', 'above')]}
         rectilinear = {'cubic': [(0, 'OutsideLow', ''), (-0.0, 'OutsideLow', ''), (-1, 'OutsideLow', 'below'), (7, 'InsideHigh', ''), (8, 'OutsideHigh', 'above'),
-                                 (nan, 'OutsideLow', ''), (inf, 'OutsideHigh', 'above'), (-inf, 'OutsideLow', 'below')],
+                                 (inf, 'OutsideHigh', 'above'), (-inf, 'OutsideLow', 'below')],
                        'held': [(-1, 'OutsideLow', 'below'), (8, 'InsideHigh', 'above'), (inf, 'InsideHigh', 'above'), (-inf, 'OutsideLow', 'below'),
-                                (7, 'InsideHigh', ''), (nan, 'OutsideLow', '')]}
+                                (7, 'InsideHigh', '')]}
         for cases in (regular, rectilinear):
             cases['straight'] = cases['cubic']
         for width, vals in itertools.product(veltzuma.WIDTHS, ([0.0, 1.0, 8.0, 27.0, 64.0], [nan] * 5)):
@@ -258,8 +266,9 @@ class MarksOfAnswers(unittest.TestCase):
                         self.assertEqual(asked(refused, [-1, 9], length), (5, [0, 1], as_it_was, [77] * length))
                     self.assertEqual(asked(refused, [-1, 9], 2), (5, [0, 1], as_it_was, [77, 77]))
                     self.assertEqual(asked(direct, [-1], 2), (3, [0, 0], as_it_was, [77, 77]))
-                    if made.kind == 'regular':
-                        self.assertEqual(asked(direct, [-1, math.nan], 2), (8, [0, 1], as_it_was, [77, 77]))
+                    self.assertEqual(asked(direct, [-1, math.nan], 2), (9, [0, 1], as_it_was, [77, 77]))
+                    if made.kind == 'regular' and mode != 'held':
+                        self.assertEqual(asked(direct, [-1, math.inf], 2), (8, [0, 1], as_it_was, [77, 77]))
 
     def test_answers_as_they_were(self):
         """A value is a float and a gradient a list, as before there were marks; and copies have the marks."""
@@ -283,6 +292,146 @@ class MarksOfAnswers(unittest.TestCase):
         # A batch has none.
         self.assertIs(type(grid.interp([4.0])), array.array)
         self.assertIs(type(grid.interp_grad([4.0])), array.array)
+
+
+class MissingReadings(unittest.TestCase):
+    """A NaN in a query is refused with 9 on its axis, on either kind, in every setting and width. 8 is about numbers alone."""
+
+    def refused(self, call, *given):
+        with self.assertRaises(veltzuma.Refusal) as caught:
+            call(*given)
+        return caught.exception.number, caught.exception.query, caught.exception.axis
+
+    @staticmethod
+    def grids(width, vals=None):
+        """The same grid of each kind: two axes of four and five entries."""
+        vals = vals or [i * 1.5 + j * j for i in range(4) for j in range(5)]
+        return (veltzuma.MulticubicRegular([4, 5], [0, 0], [1, 1], vals, width), veltzuma.MulticubicRectilinear([4, 5], [0, 1, 2, 3, 0, 1, 2, 3, 4], vals, width))
+
+    def test_alone(self):
+        nan, far = math.nan, 2.0 ** 63
+        for width, mode in itertools.product(veltzuma.WIDTHS, MODES):
+            for grid in self.grids(width):
+                # Of two refusals that of the lower axis; but held or rectilinear, the first axis has a place for 2^63.
+                lower = (8, 0, 0) if grid.kind == 'regular' and mode != 'held' else (9, 0, 1)
+                for x, told in (([nan, 1], (9, 0, 0)), ([1, nan], (9, 0, 1)), ([nan, nan], (9, 0, 0)), ([nan, far], (9, 0, 0)), ([far, nan], lower),
+                                ([-9, nan], (9, 0, 1)), ([nan, math.inf], (9, 0, 0))):
+                    for call in (grid.get_loc, grid.interp_one, grid.interp_one_grad):
+                        self.assertEqual(self.refused(call, x, mode), told, (grid.kind, width, mode, x))
+
+    def test_every_nan(self):
+        """Of either sign, quiet or not, with any payload: lent as it is, with no conversion on the way."""
+        words = {'f64': ('Q', [0x7ff8000000000000, 0xfff8000000000000, 0x7ff0000000000001, 0xfff0000000000001, 0x7fffffffffffffff, 0x7ff4000000000000]),
+                 'f32': ('I', [0x7fc00000, 0xffc00000, 0x7f800001, 0xff800001, 0x7fffffff, 0x7fa00000])}
+        for width, (code, patterns) in words.items():
+            one = array.array(CODE[width], [1.0])
+            for grid, mode, pattern in itertools.product(self.grids(width), MODES, patterns):
+                x = array.array(CODE[width], one.tobytes() + array.array(code, [pattern]).tobytes())
+                for call in (grid.get_loc, grid.interp_one, grid.interp_one_grad):
+                    self.assertEqual(self.refused(call, x, mode), (9, 0, 1), hex(pattern))
+                for call in (grid.interp, grid.interp_grad):
+                    self.assertEqual(self.refused(call, x, None, mode), (9, 0, 1), hex(pattern))
+
+    def test_where_a_nan_is_not_refused(self):
+        """Past the axis count, and among the values."""
+        for width, mode in itertools.product(veltzuma.WIDTHS, MODES):
+            for grid, other in zip(self.grids(width), self.grids(width, [math.nan] * 20)):
+                for call in ('interp_one', 'interp_one_grad', 'get_loc'):
+                    self.assertEqual(getattr(grid, call)([1.5, 2.5, math.nan, math.nan], mode), getattr(grid, call)([1.5, 2.5], mode))
+                self.assertTrue(math.isnan(other.interp_one([1.5, 2.5], mode)) and math.isnan(other.interp([1.5, 2.5], None, mode)[0]))
+                self.assertEqual(other.get_loc([1.5, 2.5], mode), grid.get_loc([1.5, 2.5], mode))
+                self.assertEqual(self.refused(other.interp_one, [1.5, math.nan], mode), (9, 0, 1))
+
+    def test_batches(self):
+        """The lowest refused query, its lowest refused axis; those before it have their answers, in every column, and nothing else is written."""
+        nan, far = math.nan, 2.0 ** 63
+        cases = (([(1.5, 2.5), (-1, 9), (0.5, nan), (1, 1), (nan, 2)], (9, 2, 1), (9, 2, 1)), ([(nan, nan), (1, 1)], (9, 0, 0), (9, 0, 0)),
+                 ([(1, 2), (3, 4), (nan, 0)], (9, 2, 0), (9, 2, 0)), ([(1, 2), (nan, far), (far, 1)], (9, 1, 0), (9, 1, 0)),
+                 ([(1, 2), (2, far), (nan, 1), (1, 1)], (8, 1, 1), (9, 2, 0)), ([(1, 2), (far, nan), (nan, 1)], (8, 1, 0), (9, 1, 1)))
+        for width, mode, (queries, where_far_is_refused, elsewhere) in itertools.product(veltzuma.WIDTHS, MODES, cases):
+            for grid in self.grids(width):
+                told = where_far_is_refused if grid.kind == 'regular' and mode != 'held' else elsewhere
+                count, joined = len(queries), [x[axis] for axis in (0, 1) for x in queries]
+                for name, columns in (('interp', 1), ('interp_grad', 2)):
+                    out = array.array(CODE[width], [-1000.0 - k for k in range(columns * count)])
+                    expected = out[:]
+                    for k, x in enumerate(queries[:told[1]]):
+                        for column, number in enumerate([grid.interp_one(x, mode)] if name == 'interp' else grid.interp_one_grad(x, mode)):
+                            expected[column * count + k] = number
+                    self.assertEqual(self.refused(getattr(grid, name), joined, out, mode), told, (grid.kind, width, mode, queries))
+                    self.assertTrue(same(out, expected, width), (grid.kind, width, mode, queries, out, expected))
+
+    def test_quotients_that_are_nan(self):
+        """Of a number it is 8 all the same; of a NaN on such an axis it is 9."""
+        inf, nan = math.inf, math.nan
+        for width, mode in itertools.product(veltzuma.WIDTHS, MODES):
+            for start, step, numbers in ((inf, 1, [inf, -inf, 0, 3]), (nan, 1, [0, 1, inf, -inf]), (0, inf, [inf])):
+                grid = veltzuma.MulticubicRegular([4], [start], [step], CUBE[3], width)
+                for given in numbers + [nan]:
+                    told = (9 if given != given else 8, 0, 0)
+                    for call in (grid.get_loc, grid.interp_one, grid.interp_one_grad):
+                        self.assertEqual(self.refused(call, [given], mode), told, (start, step, given, mode))
+                    self.assertEqual(self.refused(grid.interp, [given, nan], None, mode), told)
+            # And where the quotient is a number, the query is answered.
+            self.assertEqual(grid.get_loc([1.0], mode)[0].origin, 0)
+
+    def test_after_the_checks_of_the_grid(self):
+        vals = [1.0] * 16
+        for width, mode in itertools.product(veltzuma.WIDTHS, MODES):
+            regular, rectilinear = (functools.partial(kind, width=width) for kind in (veltzuma.MulticubicRegular, veltzuma.MulticubicRectilinear))
+            for number, grid in ((1, regular([4] * 5, [0] * 5, [1] * 5, vals)), (2, regular([4097], [0], [1], vals)), (3, regular([4], [0], [1], vals[:3])),
+                                 (4, regular([3], [0], [1], vals[:3])), (5, regular([4], [0], [0], vals[:4])), (1, rectilinear([4] * 5, range(20), vals)),
+                                 (2, rectilinear([4097], range(4097), vals)), (3, rectilinear([4], range(5), vals[:4])), (4, rectilinear([3], range(3), vals[:3])),
+                                 (5, rectilinear([4], [0, 0, 1, 2], vals[:4])), (6, rectilinear([4], [0, 1, math.nan, 3], vals[:4]))):
+                x = [math.nan] * grid.axis_count
+                for call in (grid.get_loc, grid.interp_one, grid.interp_one_grad):
+                    self.assertEqual(self.refused(call, x, mode)[0], number, (grid.kind, number))
+                for call in (grid.interp, grid.interp_grad):
+                    self.assertEqual(self.refused(call, x, None, mode)[0], number, (grid.kind, number))
+            for grid in self.grids(width):
+                self.assertEqual(self.refused(grid.interp, [math.nan] * 4, array.array(CODE[width], [0.0] * 3), mode), (7, 0, 0))
+                self.assertEqual(self.refused(grid.interp_grad, [math.nan] * 4, array.array(CODE[width], [0.0] * 3), mode), (7, 0, 0))
+                self.assertEqual(self.refused(grid.interp_one, [math.nan], mode), (3, 0, 0))
+                self.assertEqual(self.refused(grid.interp_one, [math.nan] * 2, 3), (3, 0, 0))
+
+    def test_by_own_arithmetic(self):
+        """Random batches on random grids: number, query and axis are those that the coordinates and the quotients give."""
+        def rounded(x):
+            return array.array(CODE[width], [x])[0]
+
+        def refusal(x):
+            for axis, (given, (first, last)) in enumerate(zip(x, ends(direct))):
+                if given != given:
+                    return 9, axis
+                if direct.kind == 'regular':
+                    used = first if given < first else last if given > last else given
+                    quotient = rounded(rounded((used if mode == 'held' else given) - direct.lent[0][axis]) / direct.lent[1][axis])
+                    if not -2.0 ** 63 <= quotient < 2.0 ** 63:
+                        return 8, axis
+            return None
+
+        chosen, seen = random.Random(20), set()
+        for turn in range(600):
+            width, mode = veltzuma.WIDTHS[turn % 2], MODES[turn // 2 % 3]
+            made, direct = Calls.grids(chosen, width)
+            try:
+                made.new()
+            except veltzuma.Refusal:
+                continue
+            queries = [[chosen.uniform(-6, 9) if chosen.random() < 0.8 else rounded(chosen.choice([math.nan, math.nan, math.inf, -math.inf, 2.0 ** 63, -1e300]))
+                        for _ in range(made.axis_count)] for _ in range(chosen.randrange(1, 7))]
+            told = [(found[0], k, found[1]) for k, found in enumerate(map(refusal, queries)) if found]
+            for name in ('interp', 'interp_grad'):
+                found = None
+                try:
+                    getattr(made, name)([x[axis] for axis in range(made.axis_count) for x in queries], None, mode)
+                except veltzuma.Refusal as refused:
+                    found = refused.number, refused.query, refused.axis
+                self.assertEqual(found, told[0] if told else None, (made.kind, width, mode, queries))
+            seen.add((made.kind, width, mode, told[0][0] if told else 0))
+        # A rectilinear axis refuses nothing but a NaN. Held, no number is refused on these axes.
+        self.assertEqual(seen, {(kind, width, mode, number) for kind in ('regular', 'rectilinear') for width in veltzuma.WIDTHS for mode in MODES for number in (0, 8, 9)
+                                if number != 8 or kind == 'regular' and mode != 'held'})
 
 
 class Inputs(unittest.TestCase):

@@ -11,10 +11,13 @@ import time
 import unittest
 
 from support import Direct, InFolder, MARKS, MODES, SAMPLES, LARGEST, TOOL, bits, c_number, run, table, text_of
+import veltzuma
+from table_tool import evaluate, files
 
 REGULAR = table([('flow', -1.5, 0.1, 7), ('heat', 10, 4, 5)], lambda i, j: i * 3.7 - j * j / 7, 'regular')
 RECTILINEAR = table([('flow', [-1.5, 0, 0.1, 3, 8]), ('heat', [10, 11.3, 11.4, 20]), ('head', [-4, 0, 1, 2, 5])], lambda i, j, k: i * j - k * k / 3)
 DECIMAL_LINE = '-1.25,12.7'
+NAMES = {8: 'unplaceable', 9: 'missing'}
 
 
 def numbers(text, width):
@@ -70,7 +73,7 @@ class Answers(InFolder):
 
     def test_bits(self):
         texts = [REGULAR, RECTILINEAR] + [text_of(path) for path in SAMPLES]
-        refused, seen = 0, set()
+        refused, seen = [], set()
         for text in texts:
             lines = self.queries(text.count('axis:'))
             path, queries = self.write(text), self.write('\n'.join(lines) + '\n', 'q.csv')
@@ -96,10 +99,15 @@ class Answers(InFolder):
                         if refusal is None:
                             seen |= {(mode, mark) for mark in row[-1 - grid.axes:-1]}
                         else:
-                            some, refused = True, refused + 1
-                            self.assertIn(f"refused {refusal[0]} (unplaceable): axis {refusal[1]} '", row[-1])
+                            some = True
+                            refused.append((grid.kind, refusal[0]))
+                            self.assertIn(f"refused {refusal[0]} ({NAMES[refusal[0]]}): axis {refusal[1]} '", row[-1])
+                        # A missing reading is answered nowhere, and a rectilinear axis refuses nothing else.
+                        if 'nan' in line or grid.kind == 'rectilinear':
+                            self.assertEqual(refusal is not None, 'nan' in line, (line, mode, width))
                     self.assertEqual(status, 1 if some else 0)
-        self.assertGreater(refused, 20)
+        self.assertEqual(set(refused), {('regular', 8), ('regular', 9), ('rectilinear', 9)})
+        self.assertGreater(min(refused.count(one) for one in set(refused)), 10)
         self.assertEqual(seen, set(itertools.product(MODES, MARKS)))
 
     def test_decimals_read_back(self):
@@ -132,7 +140,7 @@ class Answers(InFolder):
         for path, mode, at, place in ((regular, 'cubic', '-0.5', 'OutsideLow,below'), (regular, 'cubic', '0', 'InsideLow,'), (regular, 'cubic', '4', 'OutsideHigh,'),
                                       (regular, 'held', '-0.5', 'InsideLow,below'), (regular, 'held', 'inf', 'OutsideHigh,above'), (rectilinear, 'cubic', '0', 'OutsideLow,'),
                                       (rectilinear, 'straight', '8', 'OutsideHigh,above'), (rectilinear, 'held', '8', 'InsideHigh,above'),
-                                      (rectilinear, 'cubic', 'nan', 'OutsideLow,'), (rectilinear, 'cubic', 'inf', 'OutsideHigh,above')):
+                                      (rectilinear, 'cubic', 'inf', 'OutsideHigh,above')):
             for width in ('f64', 'f32'):
                 row = read(run('eval', path, '--at', at, '--mode', mode, '--width', width)[1])[1][0]
                 self.assertEqual(','.join(row[4:]), place + ',', (path, mode, at))
@@ -172,19 +180,57 @@ class Refused(InFolder):
     """A refused query has its own line, and those around it their answers."""
 
     def test_each_place_in_a_part(self):
-        path = self.write(REGULAR)
-        good = read(run('eval', path, '--at', DECIMAL_LINE)[1])[1][0]
-        for count, places in ((9, {0}), (9, {8}), (9, {0, 1, 2, 3}), (9, set(range(9))), (9, {2, 4, 5}), (9000, {0, 4095, 4096, 4097, 8191, 8999})):
-            lines = ['inf,3' if i in places else DECIMAL_LINE for i in range(count)]
-            status, out, err = run('eval', path, stdin='\n'.join(lines).encode())
-            rows = read(out)[1]
-            self.assertEqual((status, err, len(rows)), (1, '', count))
-            for i, row in enumerate(rows):
-                if i in places:
-                    self.assertEqual(row, ['inf', '3'] + [''] * 9 + ["refused 8 (unplaceable): axis 0 'flow': (inf - -1.5) / 0.1 is not a finite number from "
-                                                                    '-2^63 to below 2^63'])
-                else:
-                    self.assertEqual(row, good)
+        for text, asked, bad, said in (
+                (REGULAR, DECIMAL_LINE, 'inf,3', "refused 8 (unplaceable): axis 0 'flow': (inf - -1.5) / 0.1 is not a finite number from -2^63 to below 2^63"),
+                (REGULAR, DECIMAL_LINE, '3,nan', "refused 9 (missing): axis 1 'heat': no reading (nan)"),
+                (RECTILINEAR, DECIMAL_LINE + ',0.5', '3,nan,nan', "refused 9 (missing): axis 1 'heat': no reading (nan)")):
+            path = self.write(text)
+            good = read(run('eval', path, '--at', asked)[1])[1][0]
+            for count, places in ((9, {0}), (9, {8}), (9, {0, 1, 2, 3}), (9, set(range(9))), (9, {2, 4, 5}), (9000, {0, 4095, 4096, 4097, 8191, 8999})):
+                status, out, err = run('eval', path, stdin='\n'.join(bad if i in places else asked for i in range(count)).encode())
+                rows = read(out)[1]
+                self.assertEqual((status, err, len(rows)), (1, '', count))
+                for i, row in enumerate(rows):
+                    if i in places:
+                        self.assertEqual(row, bad.split(',') + [''] * (1 + 4 * len(bad.split(','))) + [said])
+                    else:
+                        self.assertEqual(row, good)
+
+    def test_a_missing_reading_in_the_middle(self):
+        """In every setting and width, on both kinds: the rows around it are those of a file without it."""
+        for text, before, middle, after, axis in ((REGULAR, ['-1.25,12.7', '-3,40'], '-1.2,nan', ['-1,11', '0,12'], "1 'heat'"),
+                                                  (REGULAR, ['-1.25,12.7'], 'nan,1e300', ['-1,11'], "0 'flow'"),
+                                                  (RECTILINEAR, ['1,12,0.5', '-3,40,9'], '1,12,nan', ['0,0,0', '2,11,-4'], "2 'head'"),
+                                                  (RECTILINEAR, ['1,12,0.5'], 'nan,12,nan', ['2,11,-4'], "0 'flow'")):
+            path = self.write(text)
+            for mode, width, more in itertools.product(MODES, ('f64', 'f32'), ([], ['--hex'])):
+                words = ['eval', path, '--mode', mode, '--width', width, *more]
+                status, plain, _ = run(*words, stdin='\n'.join(before + after).encode())
+                self.assertEqual(status, 0)
+                status, out, err = run(*words, '--queries', self.write('\n'.join(before + [middle] + after), 'q.csv'))
+                self.assertEqual((status, err), (1, ''))
+                plain, out = plain.split('\n'), out.split('\n')
+                row = out.pop(1 + len(before)).split(',')
+                self.assertEqual(out, plain)
+                self.assertEqual(row[len(middle.split(',')):], [''] * (1 + 4 * len(middle.split(','))) + [f'refused 9 (missing): axis {axis}: no reading (nan)'])
+
+    def test_a_refusal_of_the_grid_is_no_line(self):
+        """Only 8 and 9 are about a query, whatever numbers there are beside them."""
+        class Refusing:
+            def interp(self, *_):
+                raise veltzuma.Refusal(self.number, 0, 0)
+            interp_grad = interp
+
+        found = files.read_table(self.write(REGULAR), 'f64')
+        for number in range(1, 12):
+            grid = Refusing()
+            grid.number = number
+            asked = evaluate.answers(found, grid, [[-1.25, 12.7]], 'cubic')
+            if number in (8, 9):
+                self.assertIn(f'refused {number} ({NAMES[number]}): ', next(asked)[4])
+            else:
+                with self.assertRaises(veltzuma.Refusal):
+                    next(asked)
 
     def test_a_bad_line_ends_the_run(self):
         """The queries before it have their answers."""

@@ -9,6 +9,7 @@ import unittest
 import xml.etree.ElementTree
 
 from support import InFolder, LARGEST, LIBRARY, SAMPLES, TOP, run, run_process, table, text_of
+import veltzuma
 
 SVG = '{http://www.w3.org/2000/svg}'
 EVIL = 'a<script>alert(1)</script>&"\'--> x'
@@ -66,6 +67,12 @@ class Nodes(InFolder):
         self.assertIn('query 0: refused 8 (unplaceable)', out)
         for how in ('alone', 'in one batch'):
             self.assertIn(f'  {how}: the point at entries 3 stores 4, and the answer is none\n', out)
+        # Its first node is 0 + inf·0, a NaN, and its last an infinity.
+        path = self.write(table([('a', 0, 1, 4), ('b', 0, 'inf', 4)], lambda i, j: i + j, 'regular'))
+        status, out, _ = run('nodes', path, '--mode', 'held')
+        self.assertEqual(status, 1)
+        self.assertIn("  in one batch, query 0: refused 9 (missing): axis 1 'b': no reading (nan)\n", out)
+        self.assertIn('alone: 0 of 16', out)
 
 
 class Plot(InFolder):
@@ -122,6 +129,17 @@ class Plot(InFolder):
         # At nodes they are.
         self.assertEqual(len(self.circles(self.drawn(self.write(RAMP), '--along', '1', '--at', '2,-100'), False)), 6)
 
+    def test_missing_reading(self):
+        """Along the axis itself the line is drawn, and nothing is ringed; on another axis no point of it is answered."""
+        for text in (RAMP, table([('a', 0, 1, 4), ('b', 0, 10, 5)], lambda i, j: i * 100 + j, 'regular')):
+            for mode in ('cubic', 'straight', 'held'):
+                for at, said, lines in (('1.5,12.5', 'asked at 12.5: 151.25', 2), ('1.5,nan', 'asked at nan: refused', 2), ('nan,12.5', 'asked at 12.5: refused', 1)):
+                    root = self.drawn(self.write(text), '--along', 'b', '--at', at, '--mode', mode)
+                    self.assertIn(said, ''.join(root.itertext()))
+                    # One of each stands in the legend.
+                    self.assertEqual(len([found for found in root.iter(SVG + 'path') if found.get('stroke-width') == '1.8']), lines)
+                    self.assertEqual(len(self.circles(root, True)), 2 if 'nan' not in at else 1)
+
     def test_slope(self):
         plain, both = (self.drawn(LARGEST, '--along', 'pressure', *more) for more in ([], ['--slope']))
         self.assertEqual([len([found for found in root.iter(SVG + 'path') if found.get('stroke-width') == '1.8' and len(found.get('d')) > 99])
@@ -145,7 +163,7 @@ class Plot(InFolder):
 
                     whole = [float(number) for number in re.findall(r'c[xy]="([^"]*)"', text)]
                     self.assertTrue(all(-1 < number < 900 for number in whole), (values, entries, whole))
-        for start, step in (('1e17', 1), ('1e300', 1), (0, 'inf'), ('5e-324', '5e-324')):
+        for start, step in (('1e17', 1), ('1e300', 1), (0, 'inf'), ('nan', 1), ('5e-324', '5e-324')):
             self.drawn(self.write(table([('a', start, step, 4)], [[1, 2, 3, 4]], 'regular')), '--along', '0', '--slope')
         entries = ['3.401e38', '3.4015e38', '3.402e38', '3.4028235e38']
         root = self.drawn(self.write(table([('a', entries)], [entries])), '--along', '0', '--width', 'f32')
@@ -239,6 +257,8 @@ class Report(InFolder):
                 self.assertEqual(figures, stored)
             for section in ('What is proved about every answer', 'docs/SPECIFICATION.md 8.5', 'docs/EVIDENCE.md', 'Not proved'):
                 self.assertIn(section, said)
+            self.assertIn('refuses with one of nine numbers', said)
+            self.assertEqual(len(veltzuma.REFUSALS), 9)
             self.assertRegex(said, 'Truly outside. .* is marked on no axis. This table is within them in f64 and in f32. '
                              r'\(docs/SPECIFICATION.md 3.8 and 8.8; docs/EVIDENCE.md, “Marks”\)')
 
@@ -254,7 +274,6 @@ class Report(InFolder):
             self.assertTrue(re.search(f'^## {section}', evidence, re.M), section)
 
     def test_version(self):
-        import veltzuma
         made = veltzuma.load(LIBRARY).build
         _, said = self.page(LARGEST)
         for what in ('commit', 'kit', 'sources'):

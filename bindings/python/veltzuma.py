@@ -9,7 +9,7 @@
     grid.interp_one([4.0]).marks                # (Marks(below=False, above=True),)
     grid.get_loc([3.0])                         # [Place(origin=0, saturation='OutsideHigh', below=False, above=False)]
     grid.interp([1.0, 1.5])                     # array('d', [1.0, 3.375])
-    grid.interp_one([float('nan')])             # raises Refusal: number 8, query 0, axis 0
+    grid.interp_one([float('nan')])             # raises Refusal: number 9, query 0, axis 0
 
 The marks of a single answer say for each axis whether the query as given, in the grid's width, lay below its first entry or above its last. The
 class does not say that, and a batch has no marks.
@@ -17,7 +17,10 @@ class does not say that, and a batch has no marks.
 Numbers are given as a list, an `array`, any other buffer of numbers, or a numpy array of any shape. A buffer of the grid's own width that can be
 written, in one piece, is lent as it is, so that a later change of it is seen; everything else is copied, each number as Python makes it a float, and
 for f32 rounded once more. Nothing is judged before a call: what the library refuses is raised as a Refusal. docs/SPECIFICATION.md says what is
-answered. The first grid loads the library: see `load`. One of another version than VERSION is turned away, since its calls take other arguments.
+answered. A NaN in a query is a missing reading, which is refused with 9 unless a lower axis refuses with 8; a NaN among the values is
+not refused.
+
+The first grid loads the library: see `load`. One of another version than VERSION is turned away: its calls take other arguments, or answer otherwise.
 """
 import array
 import ctypes
@@ -31,11 +34,11 @@ __all__ = ['MulticubicRegular', 'MulticubicRectilinear', 'Refusal', 'Place', 'Ma
            'REFUSALS', 'SATURATION', 'MAX_QUERIES', 'VERSION']
 
 # Of the calls, as VELTZUMA_VERSION in include/veltzuma.h.
-VERSION = 2
+VERSION = 3
 MODES = {'cubic': 0, 'straight': 1, 'held': 2}
 WIDTHS = ('f64', 'f32')
 # Clause 2.2.
-REFUSALS = {1: 'axes', 2: 'size', 3: 'mismatch', 4: 'short', 5: 'not rising', 6: 'disorder', 7: 'batch', 8: 'unplaceable'}
+REFUSALS = {1: 'axes', 2: 'size', 3: 'mismatch', 4: 'short', 5: 'not rising', 6: 'disorder', 7: 'batch', 8: 'unplaceable', 9: 'missing'}
 SATURATION = ('None', 'InsideLow', 'OutsideLow', 'InsideHigh', 'OutsideHigh')
 MAX_QUERIES = 1 << 20
 
@@ -123,7 +126,7 @@ class Library:
         self.build = dict(line.split(' ', 1) for line in text.splitlines() if ' ' in line)
 
     def _ask_version(self, dll):
-        """Turns a library of another version away, before any other call of it is bound: its calls take other arguments."""
+        """Turns a library of another version away, before any other call of it is bound: its calls take other arguments, or answer otherwise."""
         for ending, half in (('', ''), ('_f32', ' in f32')):
             try:
                 call = dll['veltzuma_version' + ending]

@@ -1,7 +1,7 @@
 //! Held, the third mode, which the Rust does not have: what is expected of ours in it. Used by `compare` and `bench`.
-//! On each axis a query below the first node is replaced by that node, and one above the last node by the last. Then place,
-//! value and the components of the other axes are the Rust's cubic answers to the replaced query, and the component of a
-//! replaced axis is the Rust's reduction with four +0 as the row of that axis.
+//! On each axis a query below the first node is replaced by that node, and one above the last node by the last. A NaN is
+//! neither, and stays. Then place, value and the components of the other axes are the Rust's cubic answers to the replaced
+//! query, and the component of a replaced axis is the Rust's reduction with four +0 as the row of that axis.
 use crate::cases::*;
 use crate::original::Reader;
 use crate::width::Width;

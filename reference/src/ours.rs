@@ -5,7 +5,7 @@
 use crate::cases::Grid;
 use crate::width::Width;
 
-pub const VERSION: u32 = 2;
+pub const VERSION: u32 = 3;
 
 pub trait Calls: Width {
     fn version() -> u32;

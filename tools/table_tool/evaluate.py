@@ -28,7 +28,7 @@ def answers(table, grid, queries, mode):
             try:
                 call(joined, out, mode)
             except veltzuma.Refusal as refused:
-                if refused.number != 8:
+                if refused.number not in words.OF_QUERY:
                     raise
                 refusal = refused
         # Of a refused batch, the queries before the refused one have their answers.

@@ -354,6 +354,6 @@ def coordinates(text, at, table):
         number = floats.parse(field, table.width)
         if number is None:
             hint = ': numbers take a decimal point' if ',' in field else ''
-            raise BadInput(at + (f'{shown(field)} is not a number{hint}' if field.strip() else 'a coordinate is missing'))
+            raise BadInput(at + (f'{shown(field)} is not a number{hint}' if field.strip() else 'a field is empty'))
         found.append(number)
     return found

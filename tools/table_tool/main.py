@@ -58,7 +58,8 @@ def parser():
                     f'eval {SAMPLE} --at 55,31.5,-120 --at 55,31.5,0 --mode held',
                     "\n'outside on' an axis is 'below' where the query, as given, is below its first entry, 'above' where it is above its last, and else empty;"
                     '\nquery and entries are compared as rounded to the width, so 2.4 is above an axis of four entries from 0.3 in steps of 0.7.'
-                    '\nA query that is refused says so in its line, and the others are answered. Exit status: 0 all answered, 1 some refused, 2 bad input.')
+                    '\nA query that is refused, such as one with nan for a missing reading, says so in its line, and the others are answered.'
+                    '\nExit status: 0 all answered, 1 some refused, 2 bad input.')
     found.add_argument('table')
     found.add_argument('--at', action='append', metavar='X,Y,..', help='a query, one coordinate for each axis; there may be several')
     found.add_argument('--queries', metavar='FILE.csv', help="a query in each line, '-' for standard input (the default without --at)")

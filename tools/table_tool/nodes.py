@@ -65,6 +65,8 @@ def _batch(table, grid, points, joined, mode, told):
     try:
         grid.interp(joined, found, mode)
     except veltzuma.Refusal as refusal:
+        if refusal.number not in words.OF_QUERY:
+            raise
         answered = refusal.query
         print(f'  in one batch, query {refusal.query}: ' + words.of_query(table, refusal, points[refusal.query]), file=told)
     return list(found[:answered]) + [None] * (len(points) - answered)

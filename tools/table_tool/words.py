@@ -87,11 +87,22 @@ _PLACES = {1: _axes, 2: _size, 3: _mismatch, 4: _short, 5: _not_rising, 6: _diso
 
 
 def of_query(table, refusal, x):
-    """Refusal 8 of a query with these coordinates, in words."""
-    axis = table.axes[refusal.axis]
-    start, step, at = (floats.show(number, table.width) for number in (axis.start, axis.step, x[refusal.axis]))
-    return (f'refused {refusal.number} ({refusal.name}): {axis_words(table, refusal.axis)}: ({at} - {start}) / {step} is not a finite number '
-            f'from -2^63 to below 2^63')
+    """A refusal of a query with these coordinates, one of OF_QUERY, in words."""
+    words = OF_QUERY[refusal.number](table, table.axes[refusal.axis], x[refusal.axis])
+    return f'refused {refusal.number} ({refusal.name}): {axis_words(table, refusal.axis)}: {words}'
+
+
+def _unplaceable(table, axis, x):
+    start, step, at = (floats.show(number, table.width) for number in (axis.start, axis.step, x))
+    return f'({at} - {start}) / {step} is not a finite number from -2^63 to below 2^63'
+
+
+def _missing(table, _, x):
+    return f'no reading ({floats.show(x, table.width)})'
+
+
+# The refusals that are about one query, by their numbers. Every other one is about the grid or the whole call.
+OF_QUERY = {8: _unplaceable, 9: _missing}
 
 
 def outside_premises(table):

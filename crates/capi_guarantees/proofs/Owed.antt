@@ -20,7 +20,7 @@ use Rattle.capi.specs.Calls.{interpOneLeaves, interpOneGradLeaves, interpLeaves
 use Rattle.capi_guarantees.specs.Statements.{outcomeRead, answerRead, OfValue, OfGradient, OfBatch, OfColumns, Owed, OwedHeld}
 use Rattle.capi_guarantees.proofs.Typing.{typed, query-typed}
 use Rattle.capi_guarantees.proofs.Lent.{accepted-to, supplied-to, counted-to, refusal-holds, accepted-query, supplied-to-query, counted-to-query}
-use Rattle.capi_guarantees.proofs.Read.{value-read, gradient-read, number-read, query-read}
+use Rattle.capi_guarantees.proofs.Read.{value-read, gradient-read, number-read, as-read, query-read}
 
 module _ (f : Format) (premises : Type 0) (s s' : Gathered) where
   module _ (x out out' : List Float) (refusal refusal' marks marks' : List ℕ) where
@@ -83,7 +83,7 @@ module _ (f : Format) (premises : Type 0) (s s' : Gathered) where
           node = λ i node l h not-seven not-earlier.
               let told = query-read refusal after o (refusal-holds s (length refusal) (h .0)) in
               node-in-batch f premises many (supplied-to s (length refusal) kind) queries out after o (typed f queries fit) refl refl i node l h
-              (λ seven. not-seven (number ∙ seven)) (λ eight earlier. not-earlier (number ∙ eight) (subst (λ (q : ℕ). q < i) (sym (told eight)) earlier));
+              (λ seven. not-seven (number ∙ seven)) (λ which earlier. not-earlier (as-read number which) (subst (λ (q : ℕ). q < i) (sym (told which)) earlier));
           block = block-in-batch f many many' queries out after out' (interpBuffer f many' queries out') refl refl;
         }
 
@@ -123,7 +123,7 @@ module _ (f : Format) (premises : Type 0) (s : Gathered) (kind : Supplied f prem
       let number = number-read refusal after o in
       let told = query-read refusal after o (refusal-holds s (length refusal) (h .0)) in
       held-in-batch f premises many (supplied-to s (length refusal) kind) (λ query typed e. rows query typed (accepted-to s (length refusal) e)) queries out after o (typed f queries fit) refl refl i index l h
-      (λ seven. not-seven (number ∙ seven)) (λ eight earlier. not-earlier (number ∙ eight) (subst (λ (q : ℕ). q < i) (sym (told eight)) earlier))
+      (λ seven. not-seven (number ∙ seven)) (λ which earlier. not-earlier (as-read number which) (subst (λ (q : ℕ). q < i) (sym (told which)) earlier))
 
   pub owed-held : OwedHeld f premises s
   owed-held = record { value = held-value; batch = held-batch }

@@ -1,7 +1,8 @@
 -- A caller reads what a call answered: after one query on a grid that is accepted its value or its gradient, after a batch its number and,
--- on 8, its query.
+-- on 8 and 9, its query.
 use mathlib.Core.Path.{_≡_, refl, sym, ap, _∙_}
 use mathlib.Core.Bool.{Bool, true, false, cond}
+use mathlib.Core.Logic.{_⊎_, inl, inr}
 use mathlib.Core.List.{List, [], _∷_, _++_}
 use Prim.Native.Nat.{ℕ, zero, suc, _+_, _≤_}
 use native.Mathlib.Omega.{arith}
@@ -31,14 +32,21 @@ number-kept k q a = go (eqb k 0) refl
     go true e = sym (eqb-true k 0 e)
     go false e = refl
 
+-- the number that is read is 8 or 9 where the outcome's is
+pub as-read : {k n : ℕ} → k ≡ n → (n ≡ 8) ⊎ (n ≡ 9) → (k ≡ 8) ⊎ (k ≡ 9)
+as-read e (inl h) = inl (e ∙ h)
+as-read e (inr h) = inr (e ∙ h)
+
 module _ {W : Type 0} (refusal : List ℕ) (written : W) where
+  there : (o : Outcome) → 2 ≤ length refusal → getD (set (set refusal 0 (queryOf o)) 1 (axisOf o)) 0 0 ≡ queryOf o
+  there o two = getD-set-other (set refusal 0 (queryOf o)) 1 0 (axisOf o) 0 (λ z. omega arith) ∙ getD-set-same refusal 0 (queryOf o) 0 (omega arith)
+
   pub number-read : (o : Outcome) → numberOf (outcomeRead (leaves o refusal written)) ≡ numberOf o
   number-read o = number-kept (numberOf o) _ _
 
-  pub query-read : (o : Outcome) → 2 ≤ length refusal → numberOf o ≡ 8 → queryOf (outcomeRead (leaves o refusal written)) ≡ queryOf o
-  query-read o two e =
-      rw (e, le-ltb (length refusal) 2 two)
-      (getD-set-other (set refusal 0 (queryOf o)) 1 0 (axisOf o) 0 (λ z. omega arith) ∙ getD-set-same refusal 0 (queryOf o) 0 (omega arith))
+  pub query-read : (o : Outcome) → 2 ≤ length refusal → (numberOf o ≡ 8) ⊎ (numberOf o ≡ 9) → queryOf (outcomeRead (leaves o refusal written)) ≡ queryOf o
+  query-read o two (inl e) = rw (e, le-ltb (length refusal) 2 two) (there o two)
+  query-read o two (inr e) = rw (e, le-ltb (length refusal) 2 two) (there o two)
 
 -- ---- one query
 -- the first n of what is written over others

@@ -218,13 +218,21 @@ pub fn answered(
     told(s, t, name)
 }
 
-// `new` takes the grid, and a query on one axis is refused by 8, alone and in batches whose buffers keep their contents.
-pub fn not_placed(s: Score, g: Group, axes: &[f64], vals: &[f64], x: f64, name: &[u8]) -> Score {
+// `new` takes the grid, and a query on one axis is refused by the number, alone and in batches whose buffers keep their contents.
+pub fn not_placed(
+    s: Score,
+    g: Group,
+    axes: &[f64],
+    vals: &[f64],
+    x: f64,
+    number: u64,
+    name: &[u8],
+) -> Score {
     let before = marked_words();
     let one = with_buffers(g, 1, 1);
     let t = made(g, axes, vals, 0, 0);
-    let t = same_single(t, g, axes, vals, [x, 0.0, 0.0, 0.0], refusal(8, 0));
-    let w = walk(t, 8, 0, 0);
+    let t = same_single(t, g, axes, vals, [x, 0.0, 0.0, 0.0], refusal(number, 0));
+    let w = walk(t, number, 0, 0);
     let t = run_batches(one, axes, vals, &[x], w, &before, &before);
     told(s, t, name)
 }

@@ -19,6 +19,7 @@ use cases_calls_f32::taken;
 use cases_calls_f32::with_buffers;
 use cases_calls_f32::zeros;
 use cases_marks_f32::marked_cases;
+use cases_missing_f32::missing_cases;
 use cases_refusals_f32::refusals;
 use harness_batches_f32::marked_words;
 use harness_batches_f32::run_batches;
@@ -96,33 +97,6 @@ fn not_numbers(s: Score) -> Score {
     )
 }
 
-// Values and query all NaN. It is unplaceable on a regular axis; on a rectilinear one it is OutsideLow and answered.
-fn all_nan(s: Score) -> Score {
-    let x = 0.0 / 0.0;
-    let vals = [x; 4];
-    let entries = [0.0, 1.0, 2.0, 3.0];
-    let nan = 0x7FC0_0000;
-    let s = not_placed(
-        s,
-        regular(1, 4, 0, 0, 1.0, 1.0),
-        &entries,
-        &vals,
-        x,
-        b"regular, values and query NaN",
-    );
-    answered(
-        s,
-        rectilinear(1, 4, 0, 0),
-        &entries,
-        &vals,
-        x,
-        2,
-        nan,
-        nan,
-        b"rectilinear, values and query NaN",
-    )
-}
-
 // Refusal 6, on two axes of four entries.
 fn rectilinear_order(s: Score, z: &[f32]) -> Score {
     let nan = 0.0 / 0.0;
@@ -193,7 +167,7 @@ fn rectilinear_batches(s: Score, z: &[f32]) -> Score {
 // Refusal 8 of a single query, on the lower of two such axes.
 fn unplaceable(s: Score, z: &[f32]) -> Score {
     let g = regular(3, 4, 4, 4, 1.0, 1.0);
-    let x = [1.5, 9223372036854775808.0, 0.0 / 0.0, 1.5];
+    let x = [1.5, 9223372036854775808.0, 1.0 / 0.0, 1.5];
     let t = same_single(clear(), g, z, part(z, 0, 64), x, refusal(8, 1));
     told(s, t, b"regular, 8: axis 1 of a single query")
 }
@@ -211,7 +185,7 @@ fn bounds(s: Score) -> Score {
     let far = 9223372036854775808.0;
     let low = 0xDF00_0000;
     let one = 0x3F80_0000;
-    let s = not_placed(s, g, &x, &x, far, b"regular, 8: 2^63");
+    let s = not_placed(s, g, &x, &x, far, 8, b"regular, 8: 2^63");
     let s = answered(s, g, &x, &zero, below_63(), 4, 0, 0, b"regular, below 2^63");
     answered(s, g, &x, &x, -far, 2, low, one, b"regular, -2^63")
 }
@@ -438,39 +412,13 @@ fn held_zeros(s: Score) -> Score {
     )
 }
 
-// A NaN is past no end, so it is refused or answered as in the cubic. 2^63 is past one, and no longer refused.
+// 2^63 is past an end, and no longer refused.
 fn held_far(s: Score) -> Score {
     let x = [0.0, 1.0, 2.0, 3.0];
     let v = [0.0, 1.0, 8.0, 27.0];
-    let none = 0.0 / 0.0;
-    let nan = 0x7FC0_0000;
     let far = 9223372036854775808.0;
     let g = regular(1, 4, 0, 0, 1.0, 1.0);
-    let h = rectilinear(1, 4, 0, 0);
-    let s = not_placed(s, held(g), &x, &v, none, b"regular, held: at NaN");
-    let s = answered(
-        s,
-        cubic(h),
-        &x,
-        &v,
-        none,
-        2,
-        nan,
-        nan,
-        b"rectilinear, at NaN, cubic",
-    );
-    let s = answered(
-        s,
-        held(h),
-        &x,
-        &v,
-        none,
-        2,
-        nan,
-        nan,
-        b"rectilinear, held: at NaN",
-    );
-    let s = not_placed(s, cubic(g), &x, &v, far, b"regular, 8: 2^63, cubic");
+    let s = not_placed(s, cubic(g), &x, &v, far, 8, b"regular, 8: 2^63, cubic");
     held_at(
         s,
         &v,
@@ -491,8 +439,8 @@ fn held_infinite(s: Score) -> Score {
     let nan = 0x7FC0_0000;
     let g = held(regular_from(far, 1.0));
     let h = held(regular_from(0.0, far));
-    let s = not_placed(s, g, &v, &v, 0.0, b"regular, held: start +inf, at 0");
-    let s = not_placed(s, g, &v, &v, far, b"regular, held: start +inf, at +inf");
+    let s = not_placed(s, g, &v, &v, 0.0, 8, b"regular, held: start +inf, at 0");
+    let s = not_placed(s, g, &v, &v, far, 8, b"regular, held: start +inf, at +inf");
     let s = answered(
         s,
         h,
@@ -504,7 +452,7 @@ fn held_infinite(s: Score) -> Score {
         nan,
         b"regular, held: step +inf, at 1",
     );
-    not_placed(s, h, &v, &v, far, b"regular, held: step +inf, at +inf")
+    not_placed(s, h, &v, &v, far, 8, b"regular, held: step +inf, at +inf")
 }
 
 // Queries past the end of axis 1, past none, and past the end of axis 0. The values are cubes along axis 0, times 1 to 4 along axis 1, and so are
@@ -626,7 +574,6 @@ fn kept_grids(s: Score) -> Score {
 fn all(s: Score, z: &[f32]) -> Score {
     let s = cubes(s);
     let s = not_numbers(s);
-    let s = all_nan(s);
     let s = refusals(s);
     let s = rectilinear_order(s, z);
     let s = regular_batches(s, z);
@@ -636,7 +583,8 @@ fn all(s: Score, z: &[f32]) -> Score {
     let s = stopped(s, z);
     let s = held_edge(s);
     let s = kept_grids(s);
-    marked_cases(s)
+    let s = marked_cases(s);
+    missing_cases(s)
 }
 
 fn main() {

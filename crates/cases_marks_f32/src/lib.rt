@@ -101,7 +101,7 @@ fn on_regular(s: Score) -> Score {
     on_axis(s, g, 4.5, 2, b"regular, marks: at 4.5")
 }
 
-// A NaN has no mark, and an infinity has one.
+// An infinity has a mark.
 fn on_rectilinear(s: Score) -> Score {
     let g = rectilinear(1, 5, 0, 0);
     let far = 1.0 / 0.0;
@@ -110,7 +110,6 @@ fn on_rectilinear(s: Score) -> Score {
     let s = on_axis(s, g, -0.0, 0, b"rectilinear, marks: at -0");
     let s = on_axis(s, g, 7.0, 0, b"rectilinear, marks: at 7");
     let s = on_axis(s, g, 8.0, 2, b"rectilinear, marks: at 8");
-    let s = on_axis(s, g, 0.0 / 0.0, 0, b"rectilinear, marks: at NaN");
     let s = on_axis(s, g, far, 2, b"rectilinear, marks: at +inf");
     on_axis(s, g, -far, 1, b"rectilinear, marks: at -inf")
 }
@@ -246,6 +245,7 @@ fn far(s: Score) -> Score {
 fn refused(s: Score) -> Score {
     let z = zeros();
     let nodes = [0.0, 1.0, 2.0, 3.0, 0.0, 1.0, 2.0, 1.0];
+    let rising = [0.0, 1.0, 2.0, 3.0, 0.0, 1.0, 2.0, 3.0];
     let x = [-0.5, 0.0 / 0.0, 0.0, 0.0];
     let past = [-0.5, 9.0, 0.0, 0.0];
     let vals = part(&z, 0, 16);
@@ -255,9 +255,19 @@ fn refused(s: Score) -> Score {
         &nodes,
         vals,
         x,
-        8,
+        9,
         [0; 4],
-        b"regular, marks: refused by 8 on axis 1",
+        b"regular, marks: refused by 9 on axis 1",
+    );
+    let s = marked(
+        s,
+        rectilinear(2, 4, 4, 0),
+        &rising,
+        vals,
+        x,
+        9,
+        [0; 4],
+        b"rectilinear, marks: refused by 9 on axis 1",
     );
     let s = marked(
         s,

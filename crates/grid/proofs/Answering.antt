@@ -14,21 +14,23 @@ use borrow.Author.Tests.{eq-eqb, ne-eqb}
 use Rattle.ieee.specs.Numbers.{zero as nought}
 use Rattle.multicubic.specs.declared.Answer.the-variants as Ans
 use Rattle.multicubic.specs.declared.Loc.{Loc}
-use Rattle.multicubic.specs.declared.Loc.the-variants.{At, Unplaceable}
+use Rattle.multicubic.specs.declared.Loc.the-variants.{At}
+use Rattle.multicubic.specs.declared.Outcome.{Outcome}
 use Rattle.multicubic.specs.declared.Outcome.the-variants.{Refused}
 use Rattle.multicubic.specs.declared.Place.{Place}
-use Rattle.multicubic.specs.Answers.{answered}
-use Rattle.multicubic.specs.Place.{nowhere, Placed}
+use Rattle.multicubic.specs.Answers.{answered, placeOutcome}
+use Rattle.multicubic.specs.Place.{nowhere, Placed, refused}
+use Rattle.multicubic.proofs.Numbers.{Unplaced, unplaced-outcome}
 use Rattle.reduction.specs.Value.{stridesOf, offset, block, reduceOf}
 use Rattle.reduction.specs.Internal.{reach, from}
 use Rattle.reduction.proofs.Reduction.{offset-last, offset-take, from-block, reaches}
 use Rattle.grid.specs.declared.Quantity.{Quantity}
 use Rattle.grid.specs.declared.Quantity.the-variants.{Value, Component}
-use Rattle.grid.specs.Query.{GridAxis, countsOf, Found, unplaceableAt, places, find, originsOf, rowsOf, blockOf, valueOf, componentAt, componentsFrom}
+use Rattle.grid.specs.Query.{GridAxis, outcome, countsOf, Found, refusedAt, places, find, originsOf, rowsOf, blockOf, valueOf, componentAt, componentsFrom}
 use Rattle.grid.specs.Batch.{queryAt, foundAt}
 use Rattle.grid.specs.Internal.{isComponent, rowAt, Asked, quantityAt, answerTo, noAxis}
 use Rattle.grid.proofs.Fit.{Fit, RoomTo, room-one, room-at, base-below, reached}
-use Rattle.grid.proofs.Locating.{SoFar, placedOn, so-far-none, so-far-placed, so-far-unplaceable, so-far-all, length-one, map-one}
+use Rattle.grid.proofs.Locating.{SoFar, placedOn, so-far-none, so-far-placed, so-far-refused, so-far-all, unplaced-on, length-one, map-one}
 
 -- ---- the rows that are put: the derivative weights of the axis whose component is asked, the weights of all others
 abbrev rowOf : Quantity → ℕ → Placed → List Float
@@ -111,8 +113,9 @@ module _ {n : ℕ} {gs : List GridAxis} {values : ℕ} (fit : Fit n gs values) {
     inside : axis < length gs
     inside = let c = fit .counted in omega arith
 
-    pub pass-refused : (f : Format) (vals : List Float) (i : ℕ) → Unplaceable ≡ getD gs axis noAxis .loc (query axis) → answered (Refused 8 i axis) nought ≡ answerTo f gs vals quantity i (find 0 gs query)
-    pass-refused f vals i e = ap (answerTo f gs vals quantity i) (sym (so-far-unplaceable gs query axis (s .so-far) inside e))
+    pub pass-refused : (f : Format) (vals : List Float) (i number : ℕ) → outcome (getD gs axis noAxis) (query axis) ≡ refused number
+        → answered (Refused number i axis) nought ≡ answerTo f gs vals quantity i (find 0 gs query)
+    pass-refused f vals i number e = ap (answerTo f gs vals quantity i) (sym (so-far-refused gs query axis (s .so-far) inside number e))
 
     module _ (p : Place) (e : At p ≡ getD gs axis noAxis .loc (query axis)) where
       abbrev more : List ℕ
@@ -208,8 +211,11 @@ module _ {n : ℕ} {gs : List GridAxis} {values : ℕ} (fit : Fit n gs values) {
       turn-loc : (l : Loc) → l ≡ g .loc (getD queries at nan) → l ≡ getD gs axis noAxis .loc (queryAt count queries i axis)
       turn-loc l e = e ∙ ap (λ (k : GridAxis). k .loc (getD queries at nan)) same ∙ ap (getD gs axis noAxis .loc) turn-x
 
-      pub turn-refused : (f : Format) (vals : List Float) → Unplaceable ≡ g .loc (getD queries at nan) → answered (Refused 8 i axis) nought ≡ answerTo f gs vals quantity i (foundAt gs count queries i)
-      turn-refused f vals e = pass-refused fit (t .four) (t .spaced) (t .pass) h f vals i (turn-loc Unplaceable e)
+      pub turn-refused : (f : Format) (vals : List Float) (l : Loc) → l ≡ g .loc (getD queries at nan) → Unplaced l
+          → answered (placeOutcome i axis l) nought ≡ answerTo f gs vals quantity i (foundAt gs count queries i)
+      turn-refused f vals l e u =
+          ap (λ (o : Outcome). answered o nought) (unplaced-outcome l u i axis)
+          ∙ pass-refused fit (t .four) (t .spaced) (t .pass) h f vals i _ (unplaced-on (getD gs axis noAxis) (queryAt count queries i axis) l u (turn-loc l e))
 
       module _ (p : Place) (e : At p ≡ g .loc (getD queries at nan)) where
         -- the index stays small
@@ -267,10 +273,10 @@ turn-none gs n queries count i quantity strides rows own lent asked four spaced 
 
 -- ---- what one query's answer tells of its places
 module _ (f : Format) (gs : List GridAxis) (vals : List Float) (quantity : Quantity) (i : ℕ) where
-  pub answer-refused : (r : Found) (k q a : ℕ) → Ans.Refused k q a ≡ answerTo f gs vals quantity i r → (r ≡ unplaceableAt a) × (Refused k q a ≡ Refused 8 i a)
-  answer-refused (unplaceableAt b) k q a e = (cc, cc)
+  pub answer-refused : (r : Found) (k q a : ℕ) → Ans.Refused k q a ≡ answerTo f gs vals quantity i r → (r ≡ refusedAt k a) × (Refused k q a ≡ Refused k i a)
+  answer-refused (refusedAt m b) k q a e = (cc, cc)
   answer-refused (places ps) k q a e = absurd (let y : _≡_ {A = ℕ} 0 1 = cc in omega arith)
 
   pub answer-value : (r : Found) (v : Float) → Ans.Value v ≡ answerTo f gs vals quantity i r → (ps : List Placed) × (r ≡ places ps) × (v ≡ quantityAt f (countsOf gs) vals quantity ps)
-  answer-value (unplaceableAt b) v e = absurd (let y : _≡_ {A = ℕ} 0 1 = cc in omega arith)
+  answer-value (refusedAt m b) v e = absurd (let y : _≡_ {A = ℕ} 0 1 = cc in omega arith)
   answer-value (places ps) v e = (ps, refl, cc)

@@ -8,14 +8,14 @@ use lib.ListN.{length, getD}
 use lib.Ieee.{Float, Format}
 use Rattle.multicubic.specs.declared.Answer.{Answer}
 use Rattle.multicubic.specs.declared.Loc.{Loc}
-use Rattle.multicubic.specs.declared.Loc.the-variants.{At, Unplaceable}
+use Rattle.multicubic.specs.declared.Loc.the-variants.{At, NotANumber, Unplaceable}
 use Rattle.multicubic.specs.declared.Outcome.{Outcome}
 use Rattle.multicubic.specs.declared.Place.{Place}
 use Rattle.multicubic.specs.Answers.{answered}
 use Rattle.multicubic.specs.Grid.{_then_}
 use Rattle.multicubic.specs.Place.{nowhere, Placed, outcomeAt}
 use Rattle.reduction.specs.Value.{stridesOf, block, reduceOf}
-use Rattle.grid.specs.Query.{GridAxis, outcome, hold, heldAxis, countsOf, Grid, gridCounts, Found, unplaceableAt, places, located, find, originsOf, rowsOf, valueOf, foundValue, foundOutcome, outcomeOf, valueAnswer, fourOf, placesOf, fourPlaces, placeAnswer}
+use Rattle.grid.specs.Query.{GridAxis, outcome, hold, heldAxis, countsOf, Grid, gridCounts, Found, refusedAt, places, located, find, originsOf, rowsOf, valueOf, foundValue, foundOutcome, outcomeOf, valueAnswer, fourOf, placesOf, fourPlaces, placeAnswer}
 use Rattle.grid.specs.Internal.{noAxis}
 
 abbrev pub heldGrid : Grid → Grid
@@ -46,14 +46,15 @@ abbrev bare : Placed → Placed
 bare p = record { place = p .place; weights = p .weights; derivatives = [] }
 
 abbrev bared : Found → Found
-bared (unplaceableAt axis) = unplaceableAt axis
+bared (refusedAt number axis) = refusedAt number axis
 bared (places ps) = places (map bare ps)
 
 bared-located : (axis : ℕ) (w d d' : Place → List Float) (l : Loc) (r r' : Found) → bared r ≡ bared r' → bared (located axis (outcomeAt w d l) r) ≡ bared (located axis (outcomeAt w d' l) r')
+bared-located axis w d d' NotANumber r r' e = refl
 bared-located axis w d d' Unplaceable r r' e = refl
-bared-located axis w d d' (At p) (unplaceableAt a) (unplaceableAt b) e = e
-bared-located axis w d d' (At p) (unplaceableAt a) (places qs) e = absurd (let y : _≡_ {A = ℕ} 0 1 = cc in omega arith)
-bared-located axis w d d' (At p) (places ps) (unplaceableAt b) e = absurd (let y : _≡_ {A = ℕ} 0 1 = cc in omega arith)
+bared-located axis w d d' (At p) (refusedAt k a) (refusedAt m b) e = e
+bared-located axis w d d' (At p) (refusedAt k a) (places qs) e = absurd (let y : _≡_ {A = ℕ} 0 1 = cc in omega arith)
+bared-located axis w d d' (At p) (places ps) (refusedAt m b) e = absurd (let y : _≡_ {A = ℕ} 0 1 = cc in omega arith)
 bared-located axis w d d' (At p) (places ps) (places qs) e =
     let z : map bare ps ≡ map bare qs = cc in
     ap (λ (rs : List Placed). places (record { place = p; weights = w p; derivatives = [] } ∷ rs)) z
@@ -79,16 +80,16 @@ places-bare [] = refl
 places-bare (p ∷ ps) = ap (λ (rs : List Place). p .place ∷ rs) (places-bare ps)
 
 outcome-bared : (number : ℕ) (r : Found) → foundOutcome number (bared r) ≡ foundOutcome number r
-outcome-bared number (unplaceableAt axis) = refl
+outcome-bared number (refusedAt k axis) = refl
 outcome-bared number (places ps) = refl
 
 value-bared : (f : Format) (counts : List ℕ) (vals : List Float) (r : Found) → foundValue f counts vals (bared r) ≡ foundValue f counts vals r
 unfolding valueOf
-value-bared f counts vals (unplaceableAt axis) = refl
+value-bared f counts vals (refusedAt k axis) = refl
 value-bared f counts vals (places ps) = λ k. reduceOf f (rows-bare ps k) (block vals (stridesOf counts) (origins-bare ps k))
 
 four-bared : (o : Outcome) (r : Found) → fourPlaces o (bared r) ≡ fourPlaces o r
-four-bared o (unplaceableAt axis) = refl
+four-bared o (refusedAt k axis) = refl
 four-bared o (places ps) = ap (λ (xs : List Place). fourOf o nowhere xs) (places-bare ps)
 
 counts-held : (gs : List GridAxis) → countsOf (map heldAxis gs) ≡ countsOf gs

@@ -12,8 +12,7 @@ use lib.ListN.{length}
 use lib.Ieee.{Float, Format, eq, fits}
 use lib.Ieee.Bits.{is-true}
 use Rattle.ieee.proofs.Order.{eq-sym, eq-trans}
-use Rattle.ieee.specs.Numbers.{zero as nought}
-use Rattle.multicubic.specs.declared.Outcome.the-variants.{Accepted, Refused}
+use Rattle.multicubic.specs.declared.Outcome.the-variants.{Accepted}
 use Rattle.multicubic.specs.declared.Answer.the-variants.{Value}
 use Rattle.multicubic.specs.Grid.{product, _then_}
 use Rattle.multicubic.specs.Answers.{answered}
@@ -22,7 +21,7 @@ use Rattle.multicubic.proofs.Nodes.{AtNode}
 use Rattle.reduction.specs.Value.{stridesOf, offset, shifted, valueAt, reduceOf}
 use Rattle.reduction.specs.Nodes.{InBlock}
 use Rattle.reduction.proofs.Blocks.{Held, value-at-node, OneAtEach}
-use Rattle.grid.specs.Query.{GridAxis, outcome, Grid, places, located, find, countsOf, gridCounts, originsOf, rowsOf, blockOf, valueOf, cases, valueAnswer}
+use Rattle.grid.specs.Query.{GridAxis, outcome, Grid, places, located, find, countsOf, gridCounts, originsOf, rowsOf, blockOf, valueOf, foundValue, foundOutcome, valueAnswer}
 use Rattle.grid.specs.Nodes.{AtIndex, stored, FiniteValues, Fits}
 use Rattle.grid.proofs.Premises.{NodeLaws, Long, Sized}
 
@@ -118,7 +117,7 @@ found-at query axis (g ∷ gs) (i ∷ is) long at =
 
 -- ---- the value there
 pub answer-found : (f : Format) (g : Grid) (query : ℕ → Float) (ps : List Placed) → g .checked ≡ Accepted → find 0 (g .axes) query ≡ places ps → valueAnswer f g query ≡ Value (valueOf f (gridCounts g) (g .vals) ps)
-answer-found f g query ps accepted found = λ i. answered (accepted i then cases (found i) (λ axis. Refused 8 0 axis) (λ ps. Accepted)) (cases (found i) (λ axis. nought) (valueOf f (gridCounts g) (g .vals)))
+answer-found f g query ps accepted found = λ i. answered (accepted i then foundOutcome 0 (found i)) (foundValue f (gridCounts g) (g .vals) (found i))
 
 module _ (f : Format) (g : Grid) (is : List ℕ) (query : ℕ → Float) (sized : Sized g) (whole : FiniteValues (g .vals)) (held : Fits f (g .vals)) (h : FoundAt 0 (g .axes) is query) where
   block-held : (ks : List ℕ) → InBlock (length (rowsOf (h .ps))) ks → Held f (blockOf (gridCounts g) (g .vals) (h .ps) ks)

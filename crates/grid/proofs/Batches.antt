@@ -1,7 +1,7 @@
 -- What a batch leaves in its buffer and what it answers: entry by entry, and the lowest query that has no place.
 use mathlib.Core.Path.{_≡_, refl, sym, ap, _∙_}
 use mathlib.Core.Logic.{_↔_, _≢_, _⊎_, inl, inr, ⊎-elim}
-use mathlib.Core.Bool.{not, _||_}
+use mathlib.Core.Bool.{Bool, true, false, not, _||_, cond}
 use mathlib.Core.List.{List, [], _∷_}
 use Prim.Native.Nat.{ℕ, zero, suc, _+_, _-_, _*_, _/_, _%_, _≤_, _<_}
 use native.Mathlib.Nat.{eq-or-lt-of-le, add-comm, add-mod-right, add-mul-mod-self-right, mod-eq-of-lt, suc-mul, mul-le-mul-right}
@@ -14,10 +14,11 @@ use borrow.Author.Tests.{eqb-true, not-false}
 use Rattle.multicubic.specs.declared.Outcome.{Outcome}
 use Rattle.multicubic.specs.declared.Outcome.the-variants.{Accepted, Refused}
 use Rattle.multicubic.specs.Grid.{_then_}
-use Rattle.multicubic.specs.Place.{Placed, AxisOutcome, unplaceable, placed}
+use Rattle.multicubic.specs.Place.{Placed, AxisOutcome, refused, placed}
+use Rattle.multicubic.proofs.Numbers.{missing, refused-by}
 use Rattle.multicubic.proofs.Sizes.{or-false}
 use Rattle.multicubic.proofs.Passed.{then-accepted, refuse-accepted}
-use Rattle.grid.specs.Query.{GridAxis, outcome, Grid, Found, unplaceableAt, places, located, gridCounts, find, valueOf, componentsFrom, componentsOf}
+use Rattle.grid.specs.Query.{GridAxis, outcome, Grid, Found, refusedAt, places, located, gridCounts, find, valueOf, componentsFrom, componentsOf}
 use Rattle.grid.specs.Internal.{noAxis}
 use Rattle.grid.specs.Batch.{foundAt, checkBatch, outcomeFrom, runFrom, bufferOf, putValue, putColumns, putGradient, valueChecks, gradientChecks, interpOutcome, interpBuffer, gradOutcome, gradBuffer}
 
@@ -35,7 +36,7 @@ pub record Entry (write : ℕ → List Placed → List Float → List Float) (c 
 module _ (found : ℕ → Found) (write : ℕ → List Placed → List Float → List Float) (same : (j : ℕ) (ps : List Placed) (b : List Float) → length (write j ps b) ≡ length b) where
   length-from : (left s : ℕ) (b : List Float) (o : Found) → found s ≡ o → length (runFrom found write s left b) ≡ length b
   length-from zero s b o e = refl
-  length-from (suc left) s b (unplaceableAt a) e = rw e refl
+  length-from (suc left) s b (refusedAt k a) e = rw e refl
   length-from (suc left) s b (places ps) e = rw e (length-from left (suc s) (write s ps b) (found (suc s)) refl ∙ same s ps b)
 
   -- a run keeps the length
@@ -46,25 +47,26 @@ module _ (found : ℕ → Found) (write : ℕ → List Placed → List Float →
   -- queries other than i
   others-from : (left s : ℕ) (b : List Float) (o : Found) → found s ≡ o → s + left ≤ c → ((j : ℕ) → s ≤ j → j < s + left → j ≢ i) → getD (runFrom found write s left b) e nan ≡ getD b e nan
   others-from zero s b o q l h = refl
-  others-from (suc left) s b (unplaceableAt a) q l h = rw q
+  others-from (suc left) s b (refusedAt k a) q l h = rw q
   others-from (suc left) s b (places ps) q l h =
       rw q
       (others-from left (suc s) (write s ps b) (found (suc s)) refl (omega arith) (λ j g m. h j (omega arith) (omega arith))
       ∙ entry .other s ps b (omega arith) (h s (omega arith) (omega arith)))
 
-  keeps-from : (left s : ℕ) (b : List Float) (o : Found) → found s ≡ o → s + left ≤ c → (j a : ℕ) → s ≤ j → j ≤ i → found j ≡ unplaceableAt a → getD (runFrom found write s left b) e nan ≡ getD b e nan
-  keeps-from zero s b o q l j a h k u = refl
-  keeps-from (suc left) s b (unplaceableAt a') q l j a h k u = rw q
-  keeps-from (suc left) s b (places ps) q l j a h k u =
+  keeps-from : (left s : ℕ) (b : List Float) (o : Found) → found s ≡ o → s + left ≤ c → (number j a : ℕ) → s ≤ j → j ≤ i → found j ≡ refusedAt number a
+      → getD (runFrom found write s left b) e nan ≡ getD b e nan
+  keeps-from zero s b o q l number j a h k u = refl
+  keeps-from (suc left) s b (refusedAt m a') q l number j a h k u = rw q
+  keeps-from (suc left) s b (places ps) q l number j a h k u =
       rw q (⊎-elim
       (λ (z : s ≡ j). absurd (let y : _≡_ {A = ℕ} 0 1 = cc in omega arith))
-      (λ (m : s < j). keeps-from left (suc s) (write s ps b) (found (suc s)) refl (omega arith) j a m k u ∙ entry .other s ps b (omega arith) (λ z. omega arith))
+      (λ (m : s < j). keeps-from left (suc s) (write s ps b) (found (suc s)) refl (omega arith) number j a m k u ∙ entry .other s ps b (omega arith) (λ z. omega arith))
       (eq-or-lt-of-le h))
 
   module _ (whole : (j : ℕ) (ps : List Placed) → found j ≡ places ps → length ps ≡ n) where
     holds-from : (left s : ℕ) (b : List Float) (o : Found) → found s ≡ o → s + left ≤ c → length b ≡ size → s ≤ i → i < s + left → ((j : ℕ) → s ≤ j → j ≤ i → PlacedAt found j) → (ps : List Placed) → found i ≡ places ps → getD (runFrom found write s left b) e nan ≡ val ps
     holds-from zero s b o q l z h k all ps p = absurd (omega arith)
-    holds-from (suc left) s b (unplaceableAt a) q l z h k all ps p = absurd (let w = all s (omega arith) h in let y : _≡_ {A = ℕ} 0 1 = cc in omega arith)
+    holds-from (suc left) s b (refusedAt m a) q l z h k all ps p = absurd (let w = all s (omega arith) h in let y : _≡_ {A = ℕ} 0 1 = cc in omega arith)
     holds-from (suc left) s b (places qs) q l z h k all ps p =
         rw q (⊎-elim
         (λ (m : s ≡ i). let t = others-from left (suc s) (write s qs b) (found (suc s)) refl (omega arith) (λ j g r y. omega arith) in let w = entry .own ps b (whole i ps p) z in cc)
@@ -77,67 +79,67 @@ module _ (found : ℕ → Found) (write : ℕ → List Placed → List Float →
     holds b z h all ps p = holds-from c 0 b (found 0) refl (omega arith) z (omega arith) (omega arith) (λ j g. all j) ps p
 
   -- query i or one before it has none: its entry is as it was
-  pub keeps : (b : List Float) (j a : ℕ) → j ≤ i → found j ≡ unplaceableAt a → getD (runFrom found write 0 c b) e nan ≡ getD b e nan
-  keeps b j a h u = keeps-from c 0 b (found 0) refl (omega arith) j a (omega arith) h u
+  pub keeps : (b : List Float) (number j a : ℕ) → j ≤ i → found j ≡ refusedAt number a → getD (runFrom found write 0 c b) e nan ≡ getD b e nan
+  keeps b number j a h u = keeps-from c 0 b (found 0) refl (omega arith) number j a (omega arith) h u
 
   -- so is that of a query past the run
   pub keeps-beyond : (b : List Float) → c ≤ i → getD (runFrom found write 0 c b) e nan ≡ getD b e nan
   keeps-beyond b h = others-from c 0 b (found 0) refl (omega arith) (λ j g l z. omega arith)
 
--- ---- the outcome names the lowest query without a place
-pub record Lowest (found : ℕ → Found) (c j a : ℕ) : Type 0 where
+-- ---- the outcome names the lowest query without a place, and the number of its refusal
+pub record Lowest (found : ℕ → Found) (c number j a : ℕ) : Type 0 where
   pub inside : j < c
-  pub fails : found j ≡ unplaceableAt a
+  pub fails : found j ≡ refusedAt number a
   pub before : (k : ℕ) → k < j → PlacedAt found k
 
 module _ (found : ℕ → Found) where
-  abbrev LowestFrom : ℕ → ℕ → ℕ → ℕ → Type 0
-  LowestFrom s left j a = (s ≤ j) × (j < s + left) × (found j ≡ unplaceableAt a) × ((k : ℕ) → s ≤ k → k < j → PlacedAt found k)
+  abbrev LowestFrom : ℕ → ℕ → ℕ → ℕ → ℕ → Type 0
+  LowestFrom s left number j a = (s ≤ j) × (j < s + left) × (found j ≡ refusedAt number a) × ((k : ℕ) → s ≤ k → k < j → PlacedAt found k)
 
-  refused-from : (left s : ℕ) (o : Found) → found s ≡ o → (number j a : ℕ) → outcomeFrom found s left ≡ Refused number j a → (number ≡ 8) × LowestFrom s left j a
+  refused-from : (left s : ℕ) (o : Found) → found s ≡ o → (number j a : ℕ) → outcomeFrom found s left ≡ Refused number j a → LowestFrom s left number j a
   refused-from zero s o q number j a r = absurd (let y : _≡_ {A = ℕ} 0 1 = cc in omega arith)
-  refused-from (suc left) s (unplaceableAt b) q number j a r =
-      let t : Refused 8 s b ≡ Refused number j a = rw q at r in
+  refused-from (suc left) s (refusedAt k b) q number j a r =
+      let t : Refused k s b ≡ Refused number j a = rw q at r in
       let m : s ≡ j = cc in
-      (cc, (omega arith, omega arith, cc, λ k h l. absurd (omega arith)))
+      (omega arith, omega arith, cc, λ k h l. absurd (omega arith))
   refused-from (suc left) s (places ps) q number j a r =
       let t : outcomeFrom found (suc s) left ≡ Refused number j a = rw q at r in
       let w = refused-from left (suc s) (found (suc s)) refl number j a t in
-      (w .0, (omega arith, omega arith, w .1 .2, λ k h l. ⊎-elim (λ (z : s ≡ k). (ps, rw (sym z) q)) (λ (g : s < k). w .1 .3 k g l) (eq-or-lt-of-le h)))
+      (omega arith, omega arith, w .2, λ k h l. ⊎-elim (λ (z : s ≡ k). (ps, rw (sym z) q)) (λ (g : s < k). w .3 k g l) (eq-or-lt-of-le h))
 
-  lowest-from : (left s : ℕ) (o : Found) → found s ≡ o → (j a : ℕ) → LowestFrom s left j a → outcomeFrom found s left ≡ Refused 8 j a
-  lowest-from zero s o q j a h = absurd (omega arith)
-  lowest-from (suc left) s (unplaceableAt b) q j a h =
+  lowest-from : (left s : ℕ) (o : Found) → found s ≡ o → (number j a : ℕ) → LowestFrom s left number j a → outcomeFrom found s left ≡ Refused number j a
+  lowest-from zero s o q number j a h = absurd (omega arith)
+  lowest-from (suc left) s (refusedAt k b) q number j a h =
       rw q (⊎-elim
       (λ (z : s ≡ j). let f = h .2 in cc)
       (λ (m : s < j). absurd (let w = h .3 s (omega arith) m in let y : _≡_ {A = ℕ} 0 1 = cc in omega arith))
       (eq-or-lt-of-le (h .0)))
-  lowest-from (suc left) s (places ps) q j a h =
+  lowest-from (suc left) s (places ps) q number j a h =
       rw q (⊎-elim
       (λ (z : s ≡ j). absurd (let f = h .2 in let y : _≡_ {A = ℕ} 0 1 = cc in omega arith))
-      (λ (m : s < j). lowest-from left (suc s) (found (suc s)) refl j a (m, omega arith, h .2, λ k g l. h .3 k (omega arith) l))
+      (λ (m : s < j). lowest-from left (suc s) (found (suc s)) refl number j a (m, omega arith, h .2, λ k g l. h .3 k (omega arith) l))
       (eq-or-lt-of-le (h .0)))
 
   accepted-from : (left s : ℕ) (o : Found) → found s ≡ o → outcomeFrom found s left ≡ Accepted → (k : ℕ) → s ≤ k → k < s + left → PlacedAt found k
   accepted-from zero s o q r k h l = absurd (omega arith)
-  accepted-from (suc left) s (unplaceableAt b) q r k h l = absurd (let t : Refused 8 s b ≡ Accepted = rw q at r in let y : _≡_ {A = ℕ} 0 1 = cc in omega arith)
+  accepted-from (suc left) s (refusedAt m b) q r k h l = absurd (let t : Refused m s b ≡ Accepted = rw q at r in let y : _≡_ {A = ℕ} 0 1 = cc in omega arith)
   accepted-from (suc left) s (places ps) q r k h l =
       let t : outcomeFrom found (suc s) left ≡ Accepted = rw q at r in
       ⊎-elim (λ (z : s ≡ k). (ps, rw (sym z) q)) (λ (g : s < k). accepted-from left (suc s) (found (suc s)) refl t k g (omega arith)) (eq-or-lt-of-le h)
 
   all-from : (left s : ℕ) (o : Found) → found s ≡ o → ((k : ℕ) → s ≤ k → k < s + left → PlacedAt found k) → outcomeFrom found s left ≡ Accepted
   all-from zero s o q all = refl
-  all-from (suc left) s (unplaceableAt b) q all = absurd (let w = all s (omega arith) (omega arith) in let y : _≡_ {A = ℕ} 0 1 = cc in omega arith)
+  all-from (suc left) s (refusedAt m b) q all = absurd (let w = all s (omega arith) (omega arith) in let y : _≡_ {A = ℕ} 0 1 = cc in omega arith)
   all-from (suc left) s (places ps) q all = rw q (all-from left (suc s) (found (suc s)) refl (λ k h l. all k (omega arith) (omega arith)))
 
-  -- a refusal is 8 with the lowest, and the lowest is refused
-  pub refused-lowest : (c number j a : ℕ) → outcomeFrom found 0 c ≡ Refused number j a → (number ≡ 8) × Lowest found c j a
+  -- a refusal is the lowest's own, and the lowest is refused
+  pub refused-lowest : (c number j a : ℕ) → outcomeFrom found 0 c ≡ Refused number j a → Lowest found c number j a
   refused-lowest c number j a r =
       let w = refused-from c 0 (found 0) refl number j a r in
-      (w .0, record { inside = omega arith; fails = w .1 .2; before = λ k l. w .1 .3 k (omega arith) l })
+      record { inside = omega arith; fails = w .2; before = λ k l. w .3 k (omega arith) l }
 
-  pub lowest-refused : (c j a : ℕ) → Lowest found c j a → outcomeFrom found 0 c ≡ Refused 8 j a
-  lowest-refused c j a h = lowest-from c 0 (found 0) refl j a (omega arith, omega arith, h .fails, λ k g l. h .before k l)
+  pub lowest-refused : (c number j a : ℕ) → Lowest found c number j a → outcomeFrom found 0 c ≡ Refused number j a
+  lowest-refused c number j a h = lowest-from c 0 (found 0) refl number j a (omega arith, omega arith, h .fails, λ k g l. h .before k l)
 
   -- accepted exactly when every query has a place
   pub accepted-all : (c : ℕ) → outcomeFrom found 0 c ≡ Accepted → (k : ℕ) → k < c → PlacedAt found k
@@ -150,22 +152,22 @@ module _ (found : ℕ → Found) where
   none-accepted = refl
 
   -- one of the two holds of every query: it and all before it have a place, or there is a lowest that has none
-  pub placed-or-lowest : (i : ℕ) → ((j : ℕ) → j ≤ i → PlacedAt found j) ⊎ ((j a : ℕ) × Lowest found (suc i) j a)
+  pub placed-or-lowest : (i : ℕ) → ((j : ℕ) → j ≤ i → PlacedAt found j) ⊎ ((number j a : ℕ) × Lowest found (suc i) number j a)
   placed-or-lowest i = go (outcomeFrom found 0 (suc i)) refl
     where
-      go : (o : Outcome) → outcomeFrom found 0 (suc i) ≡ o → ((j : ℕ) → j ≤ i → PlacedAt found j) ⊎ ((j a : ℕ) × Lowest found (suc i) j a)
+      go : (o : Outcome) → outcomeFrom found 0 (suc i) ≡ o → ((j : ℕ) → j ≤ i → PlacedAt found j) ⊎ ((number j a : ℕ) × Lowest found (suc i) number j a)
       go Accepted r = inl (λ j l. accepted-all (suc i) r j (omega arith))
-      go (Refused number j a) r = inr (j, a, refused-lowest (suc i) number j a r .1)
+      go (Refused number j a) r = inr (number, j, a, refused-lowest (suc i) number j a r)
 
 -- ---- the axes name the lowest without a place
 -- axis k's outcome, the axes counted from s
 abbrev pub outcomeOn : ℕ → List GridAxis → (ℕ → Float) → ℕ → AxisOutcome
 outcomeOn s gs query k = outcome (getD gs (k - s) noAxis) (query k)
 
-pub record LowestAxis (s : ℕ) (gs : List GridAxis) (query : ℕ → Float) (a : ℕ) : Type 0 where
+pub record LowestAxis (s : ℕ) (gs : List GridAxis) (query : ℕ → Float) (number a : ℕ) : Type 0 where
   pub from : s ≤ a
   pub inside : a < s + length gs
-  pub fails : outcomeOn s gs query a ≡ unplaceable
+  pub fails : outcomeOn s gs query a ≡ refused number
   pub before : (k : ℕ) → s ≤ k → k < a → (p : Placed) × (outcomeOn s gs query k ≡ placed p)
 
 here : (s : ℕ) (g : GridAxis) (gs : List GridAxis) (query : ℕ → Float) → outcomeOn s (g ∷ gs) query s ≡ outcome g (query s)
@@ -175,17 +177,20 @@ later : (s : ℕ) (g : GridAxis) (gs : List GridAxis) (query : ℕ → Float) (k
 later s g gs query k h = let z : k - s ≡ suc (k - suc s) = omega arith in ap (λ (i : ℕ). outcome (getD (g ∷ gs) i noAxis) (query k)) z
 
 -- a query without a place names the lowest such axis, and the lowest is named
-pub find-lowest : (s : ℕ) (gs : List GridAxis) (query : ℕ → Float) (a : ℕ) → find s gs query ≡ unplaceableAt a → LowestAxis s gs query a
-find-lowest s [] query a r = absurd (let y : _≡_ {A = ℕ} 0 1 = cc in omega arith)
-find-lowest s (g ∷ gs) query a r = go (outcome g (query s)) refl (find (suc s) gs query) refl (find-lowest (suc s) gs query) r
+pub find-lowest : (s : ℕ) (gs : List GridAxis) (query : ℕ → Float) (number a : ℕ) → find s gs query ≡ refusedAt number a → LowestAxis s gs query number a
+find-lowest s [] query number a r = absurd (let y : _≡_ {A = ℕ} 0 1 = cc in omega arith)
+find-lowest s (g ∷ gs) query number a r = go (outcome g (query s)) refl (find (suc s) gs query) refl (find-lowest (suc s) gs query) r
   where
-    go : (o : AxisOutcome) → outcome g (query s) ≡ o → (f : Found) → find (suc s) gs query ≡ f → ((b : ℕ) → find (suc s) gs query ≡ unplaceableAt b → LowestAxis (suc s) gs query b) → located s o f ≡ unplaceableAt a → LowestAxis s (g ∷ gs) query a
-    go unplaceable e f q rec r =
+    go : (o : AxisOutcome) → outcome g (query s) ≡ o → (f : Found) → find (suc s) gs query ≡ f
+        → ((m b : ℕ) → find (suc s) gs query ≡ refusedAt m b → LowestAxis (suc s) gs query m b)
+        → located s o f ≡ refusedAt number a → LowestAxis s (g ∷ gs) query number a
+    go (refused k) e f q rec r =
         let z : s ≡ a = cc in
-        record { from = omega arith; inside = omega arith; fails = rw (sym z) (here s g gs query ∙ e); before = λ k h l. absurd (omega arith) }
+        let n : k ≡ number = cc in
+        record { from = omega arith; inside = omega arith; fails = rw (sym z) (here s g gs query ∙ e ∙ ap refused n); before = λ k h l. absurd (omega arith) }
     go (placed p) e (places ps) q rec r = absurd (let y : _≡_ {A = ℕ} 0 1 = cc in omega arith)
-    go (placed p) e (unplaceableAt b) q rec r =
-        let w = rec a (q ∙ r) in
+    go (placed p) e (refusedAt k b) q rec r =
+        let w = rec number a (q ∙ r) in
         let l : s < a = w .from in
         record {
           from = omega arith;
@@ -197,20 +202,20 @@ find-lowest s (g ∷ gs) query a r = go (outcome g (query s)) refl (find (suc s)
               (eq-or-lt-of-le h);
         }
 
-pub lowest-find : (s : ℕ) (gs : List GridAxis) (query : ℕ → Float) (a : ℕ) → LowestAxis s gs query a → find s gs query ≡ unplaceableAt a
-lowest-find s [] query a h = absurd (let l = h .from in let m = h .inside in omega arith)
-lowest-find s (g ∷ gs) query a h = ⊎-elim first (second (lowest-find (suc s) gs query a)) (eq-or-lt-of-le (h .from))
+pub lowest-find : (s : ℕ) (gs : List GridAxis) (query : ℕ → Float) (number a : ℕ) → LowestAxis s gs query number a → find s gs query ≡ refusedAt number a
+lowest-find s [] query number a h = absurd (let l = h .from in let m = h .inside in omega arith)
+lowest-find s (g ∷ gs) query number a h = ⊎-elim first (second (lowest-find (suc s) gs query number a)) (eq-or-lt-of-le (h .from))
   where
-    first : s ≡ a → find s (g ∷ gs) query ≡ unplaceableAt a
+    first : s ≡ a → find s (g ∷ gs) query ≡ refusedAt number a
     first z =
-        let e : outcome g (query s) ≡ unplaceable = sym (here s g gs query) ∙ ap (outcomeOn s (g ∷ gs) query) z ∙ h .fails in
-        ap (λ (o : AxisOutcome). located s o (find (suc s) gs query)) e ∙ ap unplaceableAt z
+        let e : outcome g (query s) ≡ refused number = sym (here s g gs query) ∙ ap (outcomeOn s (g ∷ gs) query) z ∙ h .fails in
+        ap (λ (o : AxisOutcome). located s o (find (suc s) gs query)) e ∙ ap (refusedAt number) z
 
-    second : (LowestAxis (suc s) gs query a → find (suc s) gs query ≡ unplaceableAt a) → s < a → find s (g ∷ gs) query ≡ unplaceableAt a
+    second : (LowestAxis (suc s) gs query number a → find (suc s) gs query ≡ refusedAt number a) → s < a → find s (g ∷ gs) query ≡ refusedAt number a
     second rec l =
         let v = h .before s (omega arith) l in
         let e : outcome g (query s) ≡ placed (v .0) = sym (here s g gs query) ∙ v .1 in
-        let r : find (suc s) gs query ≡ unplaceableAt a =
+        let r : find (suc s) gs query ≡ refusedAt number a =
         rec (record {
           from = l;
           inside = let m = h .inside in omega arith;
@@ -225,9 +230,19 @@ found-length s [] query ps r = let z : [] ≡ ps = cc in sym (ap length z)
 found-length s (g ∷ gs) query ps r = go (outcome g (query s)) (find (suc s) gs query) (found-length (suc s) gs query) r
   where
     go : (o : AxisOutcome) (f : Found) → ((qs : List Placed) → f ≡ places qs → length qs ≡ length gs) → located s o f ≡ places ps → length ps ≡ suc (length gs)
-    go unplaceable f rec r = absurd (let y : _≡_ {A = ℕ} 0 1 = cc in omega arith)
-    go (placed p) (unplaceableAt b) rec r = absurd (let y : _≡_ {A = ℕ} 0 1 = cc in omega arith)
+    go (refused k) f rec r = absurd (let y : _≡_ {A = ℕ} 0 1 = cc in omega arith)
+    go (placed p) (refusedAt k b) rec r = absurd (let y : _≡_ {A = ℕ} 0 1 = cc in omega arith)
     go (placed p) (places qs) rec r = let z : p ∷ qs ≡ ps = cc in sym (ap length z) ∙ ap suc (rec qs refl)
+
+-- the number is 8 or 9
+pub found-number : (s : ℕ) (gs : List GridAxis) (query : ℕ → Float) (number a : ℕ) → find s gs query ≡ refusedAt number a → (number ≡ 8) ⊎ (number ≡ 9)
+found-number s gs query number a e =
+    let g = getD gs (a - s) noAxis in
+    go (missing (g .loc (query a))) (refused-by (g .weights (query a)) (g .derivatives (query a)) (g .loc (query a)) number (find-lowest s gs query number a e .fails))
+  where
+    go : (b : Bool) → number ≡ cond b 9 8 → (number ≡ 8) ⊎ (number ≡ 9)
+    go true z = inr z
+    go false z = inl z
 
 -- ---- the two writes
 -- query i's number is at i
@@ -365,8 +380,8 @@ module _ (f : Format) (g : Grid) (queries buffer : List Float) where
     pub interp-runs : interpBuffer f g queries buffer ≡ runFrom valueFound (putValue f (gridCounts g) (g .vals)) 0 (length buffer) buffer
     interp-runs = accepted-buffer (valueChecks f g queries buffer) buffer _ checked
 
-    pub interp-lowest : (j a : ℕ) → (interpOutcome f g queries buffer ≡ Refused 8 j a) ↔ Lowest valueFound (length buffer) j a
-    interp-lowest j a = (λ r. refused-lowest valueFound (length buffer) 8 j a (sym interp-answers ∙ r) .1, λ h. interp-answers ∙ lowest-refused valueFound (length buffer) j a h)
+    pub interp-lowest : (number j a : ℕ) → (interpOutcome f g queries buffer ≡ Refused number j a) ↔ Lowest valueFound (length buffer) number j a
+    interp-lowest number j a = (λ r. refused-lowest valueFound (length buffer) number j a (sym interp-answers ∙ r), λ h. interp-answers ∙ lowest-refused valueFound (length buffer) number j a h)
 
     pub interp-accepted : (interpOutcome f g queries buffer ≡ Accepted) ↔ ((k : ℕ) → k < length buffer → PlacedAt valueFound k)
     interp-accepted = (λ r. accepted-all valueFound (length buffer) (sym interp-answers ∙ r), λ h. interp-answers ∙ all-accepted valueFound (length buffer) h)
@@ -377,11 +392,11 @@ module _ (f : Format) (g : Grid) (queries buffer : List Float) where
         ∙ holds valueFound (putValue f (gridCounts g) (g .vals)) (length buffer) (length (g .axes)) (length buffer) i i (valueOf f (gridCounts g) (g .vals))
         (put-entry (valueOf f (gridCounts g) (g .vals)) (length buffer) (length (g .axes)) i h) (λ j qs q. found-length 0 (g .axes) _ qs q) buffer refl h all ps p
 
-    pub interp-keeps : (i j a : ℕ) → i < length buffer → j ≤ i → valueFound j ≡ unplaceableAt a → getD (interpBuffer f g queries buffer) i nan ≡ getD buffer i nan
-    interp-keeps i j a h l u =
+    pub interp-keeps : (i number j a : ℕ) → i < length buffer → j ≤ i → valueFound j ≡ refusedAt number a → getD (interpBuffer f g queries buffer) i nan ≡ getD buffer i nan
+    interp-keeps i number j a h l u =
         ap (λ (b : List Float). getD b i nan) (accepted-buffer (valueChecks f g queries buffer) buffer _ checked)
         ∙ keeps valueFound (putValue f (gridCounts g) (g .vals)) (length buffer) (length (g .axes)) (length buffer) i i (valueOf f (gridCounts g) (g .vals))
-        (put-entry (valueOf f (gridCounts g) (g .vals)) (length buffer) (length (g .axes)) i h) buffer j a l u
+        (put-entry (valueOf f (gridCounts g) (g .vals)) (length buffer) (length (g .axes)) i h) buffer number j a l u
 
   -- `interp_grad` past its checks
   module _ (checked : gradientChecks f g queries buffer ≡ Accepted) where
@@ -391,8 +406,8 @@ module _ (f : Format) (g : Grid) (queries buffer : List Float) where
     pub grad-answers : gradOutcome f g queries buffer ≡ outcomeFrom gradientFound 0 gradientCount
     grad-answers = accepted-first (gradientChecks f g queries buffer) _ checked
 
-    pub grad-lowest : (j a : ℕ) → (gradOutcome f g queries buffer ≡ Refused 8 j a) ↔ Lowest gradientFound gradientCount j a
-    grad-lowest j a = (λ r. refused-lowest gradientFound gradientCount 8 j a (sym grad-answers ∙ r) .1, λ h. grad-answers ∙ lowest-refused gradientFound gradientCount j a h)
+    pub grad-lowest : (number j a : ℕ) → (gradOutcome f g queries buffer ≡ Refused number j a) ↔ Lowest gradientFound gradientCount number j a
+    grad-lowest number j a = (λ r. refused-lowest gradientFound gradientCount number j a (sym grad-answers ∙ r), λ h. grad-answers ∙ lowest-refused gradientFound gradientCount number j a h)
 
     pub grad-accepted : (gradOutcome f g queries buffer ≡ Accepted) ↔ ((k : ℕ) → k < gradientCount → PlacedAt gradientFound k)
     grad-accepted = (λ r. accepted-all gradientFound gradientCount (sym grad-answers ∙ r), λ h. grad-answers ∙ all-accepted gradientFound gradientCount h)
@@ -408,8 +423,9 @@ module _ (f : Format) (g : Grid) (queries buffer : List Float) where
           (λ j qs q. found-length 0 (g .axes) _ qs q ∙ counted) buffer
           (lengths-checked (g .checked) (g .axis-count) gradientCount (length queries) (g .axis-count * gradientCount) (length buffer) checked .1) h all ps p
 
-      pub grad-keeps : (j a : ℕ) → j ≤ i → gradientFound j ≡ unplaceableAt a → getD (gradBuffer f g queries buffer) (d * gradientCount + i) nan ≡ getD buffer (d * gradientCount + i) nan
-      grad-keeps j a l u =
+      pub grad-keeps : (number j a : ℕ) → j ≤ i → gradientFound j ≡ refusedAt number a
+          → getD (gradBuffer f g queries buffer) (d * gradientCount + i) nan ≡ getD buffer (d * gradientCount + i) nan
+      grad-keeps number j a l u =
           ap (λ (b : List Float). getD b (d * gradientCount + i) nan) (accepted-buffer (gradientChecks f g queries buffer) buffer _ checked)
           ∙ keeps gradientFound (putGradient f (gridCounts g) (g .vals) gradientCount) gradientCount (g .axis-count) (g .axis-count * gradientCount) i (d * gradientCount + i)
-          (λ qs. getD (componentsOf f (gridCounts g) (g .vals) qs) d nan) (gradient-entry f (gridCounts g) (g .vals) gradientCount (g .axis-count) i d h k) buffer j a l u
+          (λ qs. getD (componentsOf f (gridCounts g) (g .vals) qs) d nan) (gradient-entry f (gridCounts g) (g .vals) gradientCount (g .axis-count) i d h k) buffer number j a l u

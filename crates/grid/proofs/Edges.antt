@@ -18,7 +18,7 @@ use Rattle.ieee.proofs.Cancel.{same→eq}
 use Rattle.multicubic.specs.declared.EdgeMode.{EdgeMode}
 use Rattle.multicubic.specs.declared.EdgeMode.the-variants.{Cubic, Straight, Held}
 use Rattle.multicubic.specs.declared.Loc.{Loc}
-use Rattle.multicubic.specs.declared.Loc.the-variants.{At, Unplaceable}
+use Rattle.multicubic.specs.declared.Loc.the-variants.{At, NotANumber, Unplaceable}
 use Rattle.multicubic.specs.declared.Marks.{Marks}
 use Rattle.multicubic.specs.declared.Place.{Place}
 use Rattle.multicubic.specs.Place.{straightOf, Placed, placed, outcomeAt}
@@ -144,6 +144,7 @@ edge-order f Held axis ok = record { some = ok false .some; fit = ok false .fit;
 
 -- other derivative weights at the same place
 weighed : (w d d' : Place → List Float) (l : Loc) (q : Placed) → outcomeAt w d l ≡ placed q → outcomeAt w d' l ≡ placed (record { place = q .place; weights = q .weights; derivatives = d' (q .place) })
+weighed w d d' NotANumber q e = absurd (let y : _≡_ {A = ℕ} 0 1 = cc in omega arith)
 weighed w d d' Unplaceable q e = absurd (let y : _≡_ {A = ℕ} 0 1 = cc in omega arith)
 weighed w d d' (At p) q e =
     let z : record { place = p; weights = w p; derivatives = d p } ≡ q = cc in

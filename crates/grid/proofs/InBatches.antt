@@ -12,7 +12,7 @@ use Rattle.multicubic.specs.declared.Outcome.{Outcome}
 use Rattle.multicubic.specs.declared.Outcome.the-variants.{Accepted, Refused}
 use Rattle.multicubic.specs.Grid.{_then_}
 use Rattle.multicubic.specs.Place.{Placed}
-use Rattle.grid.specs.Query.{Grid, Found, places, unplaceableAt, gridCounts, countsOf, valueOf, componentsOf}
+use Rattle.grid.specs.Query.{Grid, Found, places, refusedAt, gridCounts, countsOf, valueOf, componentsOf}
 use Rattle.grid.specs.Batch.{queryAt, foundAt, checkBatch, valueChecks, gradientChecks, interpBuffer, gradBuffer}
 use Rattle.grid.specs.Nodes.{stored, SameBlock}
 use Rattle.grid.proofs.AtNodes.{NodeCase, node-value}
@@ -30,11 +30,11 @@ node-entry f g is queries buffer checked i h before c =
 
 -- ---- blocks: one of two, by the checks and by whether every query up to i is placed
 either : {A B : Type 0} (checks : Outcome) (found : ℕ → Found) (i : ℕ) → ((number query axis : ℕ) → checks ≡ Refused number query axis → B) → (checks ≡ Accepted → ((j : ℕ) → j ≤ i → PlacedAt found j) → A)
-    → (checks ≡ Accepted → (j a : ℕ) → j ≤ i → found j ≡ unplaceableAt a → B) → A ⊎ B
+    → (checks ≡ Accepted → (k j a : ℕ) → j ≤ i → found j ≡ refusedAt k a → B) → A ⊎ B
 either (Refused number query axis) found i refused answered kept = inr (refused number query axis refl)
 either Accepted found i refused answered kept = elim (placed-or-lowest found i) [
   | inl all ↦ inl (answered refl all)
-  | inr low ↦ inr (kept refl (low .0) (low .1) (let l = low .2 .inside in omega arith) (low .2 .fails))
+  | inr low ↦ inr (kept refl (low .0) (low .1) (low .2) (let l = low .3 .inside in omega arith) (low .3 .fails))
 ]
 
 -- two accepted grids with the same axes and setting
@@ -66,7 +66,7 @@ module _ (f : Format) (g g' : Grid) (alike : Alike g g') (queries buffer buffer'
       let v = interp-holds f g queries buffer ok i h all ps found in
       let v' = interp-holds f g' queries buffer' (sym checks-agree ∙ ok) i h' (λ j l. (all j l .0, sym (found-agrees j) ∙ all j l .1)) ps (sym (found-agrees i) ∙ found) in
       (v, v' ∙ sym values-agree ∙ sym v))
-      (λ ok j a l e. (interp-keeps f g queries buffer ok i j a h l e, interp-keeps f g' queries buffer' (sym checks-agree ∙ ok) i j a h' l (sym (found-agrees j) ∙ e)))
+      (λ ok m j a l e. (interp-keeps f g queries buffer ok i m j a h l e, interp-keeps f g' queries buffer' (sym checks-agree ∙ ok) i m j a h' l (sym (found-agrees j) ∙ e)))
 
 module _ (f : Format) (g g' : Grid) (alike : Alike g g') (queries buffer buffer' : List Float) (len : length buffer ≡ length buffer') (whole : length (g .axes) ≡ g .axis-count) (ps : List Placed) (same : SameBlock (gridCounts g) ps (g .vals) (g' .vals)) where
   abbrev c : ℕ
@@ -105,4 +105,5 @@ module _ (f : Format) (g g' : Grid) (alike : Alike g g') (queries buffer buffer'
       let v = grad-holds f g queries buffer ok i d h k whole all ps found in
       let v' = grad-holds f g' queries buffer' (sym grad-checks-agree ∙ ok) i d h' (k' d k) whole' (λ j l. (all j l .0, sym (grad-found-agrees j) ∙ all j l .1)) ps (sym (grad-found-agrees i) ∙ found) in
       (v, v' ∙ ap (λ xs. getD xs d nan) (sym components-agree) ∙ sym v))
-      (λ ok j a l e d k. (grad-keeps f g queries buffer ok i d h k j a l e, grad-keeps f g' queries buffer' (sym grad-checks-agree ∙ ok) i d h' (k' d k) j a l (sym (grad-found-agrees j) ∙ e)))
+      (λ ok m j a l e d k.
+      (grad-keeps f g queries buffer ok i d h k m j a l e, grad-keeps f g' queries buffer' (sym grad-checks-agree ∙ ok) i d h' (k' d k) m j a l (sym (grad-found-agrees j) ∙ e)))

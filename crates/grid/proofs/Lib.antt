@@ -1,4 +1,5 @@
 -- Laws of a grid over a list of axes.
+pub mod Examples
 pub mod Premises
 pub mod Sizes
 pub mod Checks
@@ -7,6 +8,7 @@ pub mod Marking
 pub mod AtNodes
 pub mod OfBlocks
 pub mod Batches
+pub mod Missing
 pub mod Fit
 pub mod Edges
 pub mod Unmarked

@@ -7,13 +7,17 @@ use native.Mathlib.Omega.{arith}
 use lib.ListN.{length, getD, take, drop, set, length-map}
 use lib.Seq.{drop-cons, drop-length}
 use lib.Ieee.{Float}
+use Rattle.multicubic.specs.declared.Outcome.{Outcome}
 use Rattle.multicubic.specs.declared.Outcome.the-variants.{Accepted}
-use Rattle.multicubic.specs.declared.Loc.the-variants.{At, Unplaceable}
+use Rattle.multicubic.specs.declared.Loc.{Loc}
+use Rattle.multicubic.specs.declared.Loc.the-variants.{At}
 use Rattle.multicubic.specs.declared.Place.{Place}
 use Rattle.multicubic.specs.declared.PlaceAnswer.{PlaceAnswer}
-use Rattle.multicubic.specs.Place.{nowhere, Placed, placed}
+use Rattle.multicubic.specs.Answers.{numberOf, placeOutcome}
+use Rattle.multicubic.specs.Place.{nowhere, Placed, refused, placed, outcomeAt}
+use Rattle.multicubic.proofs.Numbers.{Unplaced, unplaced-outcome, unplaced-at}
 use Rattle.multicubic.specs.Internal.{fourNowhere}
-use Rattle.grid.specs.Query.{GridAxis, Grid, Found, unplaceableAt, places, located, find, outcomeOf, placesOf, placeAnswer}
+use Rattle.grid.specs.Query.{GridAxis, outcome, Grid, Found, refusedAt, places, located, find, outcomeOf, placesOf, placeAnswer}
 use Rattle.grid.specs.Internal.{Located, noAxis}
 
 -- ---- a list with one entry more
@@ -47,15 +51,15 @@ put-four {A = A} other xs x k e h = rw (← e) (go xs (omega arith))
 -- ---- the first i axes have placed the query at ps; the others are still to be looked through
 -- the places ps before those that are found later
 abbrev after : List Placed → Found → Found
-after ps (unplaceableAt axis) = unplaceableAt axis
+after ps (refusedAt number axis) = refusedAt number axis
 after ps (places qs) = places (ps ++ qs)
 
 pub after-none : (r : Found) → r ≡ after [] r
-after-none (unplaceableAt axis) = refl
+after-none (refusedAt number axis) = refl
 after-none (places qs) = refl
 
 pub after-one : (axis : ℕ) (ps : List Placed) (p : Placed) (r : Found) → after ps (located axis (placed p) r) ≡ after (ps ++ (p ∷ [])) r
-after-one axis ps p (unplaceableAt later) = refl
+after-one axis ps p (refusedAt number later) = refl
 after-one axis ps p (places qs) = ap places (append-one ps qs p)
 
 pub record SoFar (gs : List GridAxis) (query : ℕ → Float) (i : ℕ) : Type 0 where
@@ -86,8 +90,8 @@ module _ (gs : List GridAxis) (query : ℕ → Float) where
             is = rw add-one (next ∙ rw (sym e) (after-one i (s .ps) q (find (suc i) (drop (suc i) gs) query)));
           }
 
-      pub so-far-unplaceable : Unplaceable ≡ getD gs i noAxis .loc (query i) → find 0 gs query ≡ unplaceableAt i
-      so-far-unplaceable e = next ∙ rw (sym e) refl
+      pub so-far-refused : (number : ℕ) → outcome (getD gs i noAxis) (query i) ≡ refused number → find 0 gs query ≡ refusedAt number i
+      so-far-refused number e = next ∙ rw e refl
 
     pub so-far-all : i ≡ length gs → find 0 gs query ≡ places (s .ps)
     so-far-all z =
@@ -120,3 +124,14 @@ module _ (gs : List GridAxis) (query : ℕ → Float) (kept : List Place) where
 -- a grid that is taken answers what its axes give
 pub place-found : (g : Grid) (query : ℕ → Float) (r : PlaceAnswer) → g .checked ≡ Accepted → Located 0 (g .axes) query r → (r .outcome ≡ outcomeOf g query) × (r .places ≡ placeAnswer g query)
 place-found g query r e p = (rw e (p .0), rw e (p .1))
+
+-- an axis without a place for the query refuses it by the number that its place has
+pub unplaced-on : (g : GridAxis) (x : Float) (l : Loc) → Unplaced l → l ≡ g .loc x → outcome g x ≡ refused (numberOf (placeOutcome 0 0 l))
+unplaced-on g x l u e = ap (outcomeAt (g .weights x) (g .derivatives x)) (sym e) ∙ unplaced-at (g .weights x) (g .derivatives x) l u
+
+-- so nothing is placed
+pub located-refused : (gs : List GridAxis) (query : ℕ → Float) (i : ℕ) → SoFar gs query i → i < length gs → (l : Loc) → l ≡ getD gs i noAxis .loc (query i) → Unplaced l
+    → (o : Outcome) (kept : List Place) → o ≡ placeOutcome 0 i l → kept ≡ fourNowhere → Located 0 gs query (record { outcome = o; places = kept })
+located-refused gs query i s h l e u o kept p n =
+    let f = so-far-refused gs query i s h (numberOf (placeOutcome 0 0 l)) (unplaced-on (getD gs i noAxis) (query i) l u e) in
+    (p ∙ unplaced-outcome l u 0 i ∙ rw f refl, n ∙ rw f refl)

@@ -21,7 +21,7 @@ use Rattle.multicubic.specs.Answers.{answerOutcome}
 use Rattle.multicubic.specs.Place.{Placed}
 use Rattle.grid.specs.declared.Quantity.{Quantity}
 use Rattle.grid.specs.declared.Quantity.the-variants.{Component}
-use Rattle.grid.specs.Query.{GridAxis, countsOf, Grid, gridCounts, Found, unplaceableAt, places, componentsOf}
+use Rattle.grid.specs.Query.{GridAxis, countsOf, Grid, gridCounts, Found, refusedAt, places, componentsOf}
 use Rattle.grid.specs.Batch.{queryAt, foundAt, outcomeFrom, runFrom, gradientChecks, gradBuffer}
 use Rattle.grid.specs.Internal.{quantityAt, answerTo, putQuantity, answeredBefore, componentIn, Filled, FilledColumns}
 use Rattle.grid.proofs.Answering.{answer-refused, answer-value}
@@ -35,14 +35,14 @@ module _ (found : ℕ → Found) (write : ℕ → List Placed → List Float →
   outcome-placed : (ps : List Placed) → found i ≡ places ps → outcomeFrom found i (c - i) ≡ outcomeFrom found (i + 1) (c - (i + 1))
   outcome-placed ps e = rw (left, e, add-one) refl
 
-  outcome-refused : (a : ℕ) → found i ≡ unplaceableAt a → outcomeFrom found i (c - i) ≡ Refused 8 i a
-  outcome-refused a e = rw (left, e) refl
+  outcome-refused : (k a : ℕ) → found i ≡ refusedAt k a → outcomeFrom found i (c - i) ≡ Refused k i a
+  outcome-refused k a e = rw (left, e) refl
 
   run-placed : (ps : List Placed) (b : List Float) → found i ≡ places ps → runFrom found write i (c - i) b ≡ runFrom found write (i + 1) (c - (i + 1)) (write i ps b)
   run-placed ps b e = rw (left, e, add-one) refl
 
-  run-refused : (a : ℕ) (b : List Float) → found i ≡ unplaceableAt a → runFrom found write i (c - i) b ≡ b
-  run-refused a b e = rw (left, e) refl
+  run-refused : (k a : ℕ) (b : List Float) → found i ≡ refusedAt k a → runFrom found write i (c - i) b ≡ b
+  run-refused k a b e = rw (left, e) refl
 
 module _ (found : ℕ → Found) (write : ℕ → List Placed → List Float → List Float) (c i : ℕ) (e : i ≡ c) where
   outcome-done : outcomeFrom found i (c - i) ≡ Accepted
@@ -84,8 +84,8 @@ module _ {f : Format} {gs : List GridAxis} {vals queries : List Float} {quantity
     pub filling-refused : {k q x : ℕ} → answer ≡ Ans.Refused k q x → (answerOutcome answer ≡ outcomeFrom asked 0 c) × (out ≡ runFrom asked write 0 c before)
     filling-refused {k} {q} {x} e =
         let w = answer-refused f gs vals quantity i (asked i) k q x (sym e ∙ a) in (
-          ap answerOutcome e ∙ w .1 ∙ sym (s .outcome-left ∙ outcome-refused asked write c i h x (w .0)),
-          sym (s .run-left ∙ run-refused asked write c i h x out (w .0)),
+          ap answerOutcome e ∙ w .1 ∙ sym (s .outcome-left ∙ outcome-refused asked write c i h k x (w .0)),
+          sym (s .run-left ∙ run-refused asked write c i h k x out (w .0)),
         )
 
 -- ---- a part of the buffer that was lent
@@ -168,20 +168,20 @@ module _ (given : ℕ → ℕ → Float) (c stop : ℕ) (before : List Float) wh
 
 -- ---- a column so run over
 module _ (found : ℕ → Found) (c : ℕ) where
-  -- the queries before the lowest unplaceable one have a place
+  -- the queries before the lowest that is refused have a place
   placeable : (i : ℕ) → i < answeredBefore (outcomeFrom found 0 c) c → PlacedAt found i
   placeable = go (outcomeFrom found 0 c) refl
     where
       go : (o : Outcome) → outcomeFrom found 0 c ≡ o → (i : ℕ) → i < answeredBefore o c → PlacedAt found i
       go Accepted e i h = accepted-all found c e i h
-      go (Refused number j a) e i h = refused-lowest found c number j a e .1 .before i h
+      go (Refused number j a) e i h = refused-lowest found c number j a e .before i h
 
   stop-within : answeredBefore (outcomeFrom found 0 c) c ≤ c
   stop-within = go (outcomeFrom found 0 c) refl
     where
       go : (o : Outcome) → outcomeFrom found 0 c ≡ o → answeredBefore o c ≤ c
       go Accepted e = omega arith
-      go (Refused number j a) e = let l = refused-lowest found c number j a e .1 .inside in omega arith
+      go (Refused number j a) e = let l = refused-lowest found c number j a e .inside in omega arith
 
 module _ (f : Format) (gs : List GridAxis) (vals queries : List Float) (d c : ℕ) (before : List Float) (size : length before ≡ c) where
   abbrev inColumn : ℕ → Found
@@ -204,7 +204,9 @@ module _ (f : Format) (gs : List GridAxis) (vals queries : List Float) (d c : �
         where
           go : (o : Outcome) → outcomeFrom inColumn 0 c ≡ o → answeredBefore o c ≤ i → getD (runFrom inColumn (putQuantity f (countsOf gs) vals (Component d)) 0 c before) i nan ≡ getD before i nan
           go Accepted e l = absurd (omega arith)
-          go (Refused number j a) e l = keeps inColumn _ c (length gs) c i i component (put-entry component c (length gs) i (omega arith)) before j a l (refused-lowest inColumn c number j a e .1 .fails)
+          go (Refused number j a) e l =
+              keeps inColumn _ c (length gs) c i i component (put-entry component c (length gs) i (omega arith)) before number j a l
+              (refused-lowest inColumn c number j a e .fails)
 
 -- ---- the columns, each filled by the loop above
 -- d of them are filled, and have met the outcome
@@ -278,7 +280,7 @@ module _ (f : Format) (g : Grid) (queries before after : List Float) (counted : 
         go (Refused number j a) e false t =
             let l = ltb-false i (answeredBefore (outcomeFrom found 0 c) c) t in
             let m : j ≤ i = rw e at l in
-            filled .2 d i h l k ∙ sym (grad-keeps f g queries before checked i d k h j a m (refused-lowest found c number j a e .1 .fails))
+            filled .2 d i h l k ∙ sym (grad-keeps f g queries before checked i d k h number j a m (refused-lowest found c number j a e .fails))
 
     size : length before ≡ g .axis-count * c
     size = lengths-checked (g .checked) (g .axis-count) c (length queries) (g .axis-count * c) (length before) checked .1

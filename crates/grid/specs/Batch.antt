@@ -23,15 +23,15 @@ foundAt gs c queries i = find 0 gs (queryAt c queries i)
 abbrev pub checkBatch : ℕ → ℕ → ℕ → ℕ → ℕ → Outcome
 checkBatch n c queries entries buffer = refuse (ltb 1048576 c || not (eqb queries (n * c)) || not (eqb buffer entries)) 7
 
--- the outcome of `left` queries from i on: 8 with the lowest unplaceable query, and its lowest such axis
+-- the outcome of `left` queries from i on: the refusal of the lowest that is refused, at its lowest such axis
 abbrev pub outcomeFrom : (ℕ → Found) → ℕ → ℕ → Outcome
 outcomeFrom found i zero = Accepted
-outcomeFrom found i (suc left) = cases (found i) (λ axis. Refused 8 i axis) (λ ps. outcomeFrom found (suc i) left)
+outcomeFrom found i (suc left) = cases (found i) (λ number axis. Refused number i axis) (λ ps. outcomeFrom found (suc i) left)
 
 -- the buffer after them: write puts a query's answer into it
 abbrev pub runFrom : (ℕ → Found) → (ℕ → List Placed → List Float → List Float) → ℕ → ℕ → List Float → List Float
 runFrom found write i zero buffer = buffer
-runFrom found write i (suc left) buffer = cases (found i) (λ axis. buffer) (λ ps. runFrom found write (suc i) left (write i ps buffer))
+runFrom found write i (suc left) buffer = cases (found i) (λ number axis. buffer) (λ ps. runFrom found write (suc i) left (write i ps buffer))
 
 -- refusals 1 to 7 write nothing
 abbrev pub bufferOf : Outcome → List Float → List Float → List Float

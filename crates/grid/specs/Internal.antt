@@ -68,7 +68,7 @@ quantityAt f counts vals (Component d) ps = getD (componentsOf f counts vals ps)
 
 -- query i's answer to it
 abbrev pub answerTo : Format → List GridAxis → List Float → Quantity → ℕ → Found → Answer
-answerTo f gs vals quantity i found = answered (foundOutcome i found) (cases found (λ axis. nought) (quantityAt f (countsOf gs) vals quantity))
+answerTo f gs vals quantity i found = answered (foundOutcome i found) (cases found (λ number axis. nought) (quantityAt f (countsOf gs) vals quantity))
 
 -- the gradient's four numbers, by the axes alone
 abbrev pub gradientTo : Format → List GridAxis → List Float → Found → List Float

@@ -1,5 +1,5 @@
--- One query on a grid: the axes in its setting (clause 3.7), its places, its value and its gradient (clauses 3.6, 5.4 and 6.2), its marks (clause
--- 3.8).
+-- One query on a grid: the axes in its setting (clause 3.7), its places or its refusal (clauses 2.3 and 3.6), its value and its gradient (clauses
+-- 5.4 and 6.2), its marks (clause 3.8).
 use Prim.Native.Nat.{ℕ, suc, _-_}
 use mathlib.Core.Bool.{Bool, false, true, cond, _||_}
 use mathlib.Core.List.{List, [], _∷_, _++_, map}
@@ -16,7 +16,7 @@ use Rattle.multicubic.specs.declared.Marks.{Marks}
 use Rattle.multicubic.specs.declared.Place.{Place}
 use Rattle.multicubic.specs.declared.Loc.{Loc}
 use Rattle.multicubic.specs.Grid.{_then_}
-use Rattle.multicubic.specs.Place.{nowhere, unmarked, Placed, AxisOutcome, unplaceable, placed, outcomeAt}
+use Rattle.multicubic.specs.Place.{nowhere, unmarked, Placed, AxisOutcome, refused, placed, outcomeAt}
 use Rattle.reduction.specs.Value.{stridesOf, block, reduceOf}
 use Rattle.reduction.specs.Gradient.{componentOf}
 
@@ -61,22 +61,22 @@ edgeAxis Cubic axis = axis false
 edgeAxis Straight axis = axis true
 edgeAxis Held axis = heldAxis (axis false)
 
--- ---- Clauses 3.6, 5.4 and 6.2
+-- ---- Clauses 2.3, 3.6, 5.4 and 6.2
 abbrev pub countsOf : List GridAxis → List ℕ
 countsOf gs = map (λ (g : GridAxis). g .count) gs
 
--- what the axes give for a query: a place on each, or the lowest axis on which it is unplaceable
+-- what the axes give for a query: a place on each, or the lowest axis that refuses it, behind the number of that refusal
 pub data Found : Type 0 where
-  unplaceableAt : ℕ → Found
+  refusedAt : ℕ → ℕ → Found
   places : List Placed → Found
 
-abbrev pub cases : {A : Type 0} → Found → (ℕ → A) → (List Placed → A) → A
-cases (unplaceableAt axis) refused answered = refused axis
-cases (places ps) refused answered = answered ps
+abbrev pub cases : {A : Type 0} → Found → (ℕ → ℕ → A) → (List Placed → A) → A
+cases (refusedAt number axis) unanswered answered = unanswered number axis
+cases (places ps) unanswered answered = answered ps
 
 abbrev pub located : ℕ → AxisOutcome → Found → Found
-located axis unplaceable later = unplaceableAt axis
-located axis (placed p) (unplaceableAt later) = unplaceableAt later
+located axis (refused number) later = refusedAt number axis
+located axis (placed p) (refusedAt number later) = refusedAt number later
 located axis (placed p) (places ps) = places (p ∷ ps)
 
 -- from an axis on; the query gives a coordinate for each axis
@@ -97,9 +97,9 @@ blockOf counts vals ps = block vals (stridesOf counts) (originsOf ps)
 unfoldable pub valueOf : Format → List ℕ → List Float → List Placed → Float
 valueOf f counts vals ps = reduceOf f (rowsOf ps) (blockOf counts vals ps)
 
--- at what is found; +0 where the query is unplaceable
+-- at what is found; +0 where the query is refused
 abbrev pub foundValue : Format → List ℕ → List Float → Found → Float
-foundValue f counts vals found = cases found (λ axis. zero) (valueOf f counts vals)
+foundValue f counts vals found = cases found (λ number axis. zero) (valueOf f counts vals)
 
 -- component d for each axis d: its row replaced by its derivative weights
 unfoldable pub componentAt : Format → List ℕ → List Float → List Placed → ℕ → Placed → Float
@@ -113,7 +113,7 @@ abbrev pub componentsOf : Format → List ℕ → List Float → List Placed →
 componentsOf f counts vals ps = componentsFrom f counts vals ps 0 ps
 
 abbrev pub foundComponents : Format → List ℕ → List Float → Found → List Float
-foundComponents f counts vals found = cases found (λ axis. []) (componentsOf f counts vals)
+foundComponents f counts vals found = cases found (λ number axis. []) (componentsOf f counts vals)
 
 -- What a grid is to its queries: the outcome of its checks 1 to 6, its axis count, its axes and its values.
 pub record Grid : Type 0 where
@@ -125,15 +125,15 @@ pub record Grid : Type 0 where
 abbrev pub gridCounts : Grid → List ℕ
 gridCounts g = countsOf (g .axes)
 
--- 8 with the query's number and the lowest axis on which it is unplaceable
+-- the refusal of a query's lowest axis that refuses it, 9 or 8
 abbrev pub foundOutcome : ℕ → Found → Outcome
-foundOutcome query found = cases found (λ axis. Refused 8 query axis) (λ ps. Accepted)
+foundOutcome query found = cases found (λ number axis. Refused number query axis) (λ ps. Accepted)
 
 -- a single query's coordinate on an axis
 abbrev pub at : List Float → ℕ → Float
 at x axis = getD x axis nan
 
--- A single query is query 0: the grid's refusal, or 8.
+-- A single query is query 0: the grid's refusal, or 9 or 8.
 abbrev pub outcomeOf : Grid → (ℕ → Float) → Outcome
 outcomeOf g query = g .checked then foundOutcome 0 (find 0 (g .axes) query)
 
@@ -159,7 +159,7 @@ abbrev pub placesOf : List Placed → List Place
 placesOf ps = map (λ (p : Placed). p .place) ps
 
 abbrev pub fourPlaces : Outcome → Found → List Place
-fourPlaces outcome found = fourOf outcome nowhere (cases found (λ axis. []) placesOf)
+fourPlaces outcome found = fourOf outcome nowhere (cases found (λ number axis. []) placesOf)
 
 abbrev pub placeAnswer : Grid → (ℕ → Float) → List Place
 placeAnswer g query = fourPlaces (outcomeOf g query) (find 0 (g .axes) query)

@@ -2,6 +2,7 @@
 -- earlier queries have passed, so the query's entry is written.
 use mathlib.Core.Path.{_≡_, refl, sym, ap, _∙_, subst}
 use mathlib.Core.Bool.{Bool, true, false, not, _||_}
+use mathlib.Core.Logic.{_⊎_}
 use mathlib.Core.List.{List}
 use Prim.Native.Nat.{ℕ, _*_, _<_}
 use native.Mathlib.Omega.{arith}
@@ -19,7 +20,7 @@ use Rattle.grid.specs.Edges.{AtClamped}
 use Rattle.grid.specs.Nodes.{stored, Fits}
 use Rattle.grid.proofs.Premises.{NodeLaws, Sized}
 use Rattle.grid.proofs.AtNodes.{AtEach, at-each, NodeCase, node-answer, node-differs}
-use Rattle.grid.proofs.Batches.{PlacedAt, Lowest, refused-lowest, accepted-all, interp-refused, interp-answers}
+use Rattle.grid.proofs.Batches.{PlacedAt, Lowest, refused-lowest, accepted-all, found-number, interp-refused, interp-answers}
 use Rattle.grid.proofs.InBatches.{node-entry}
 use Rattle.guarantees.specs.Statements.{IsAccepted, QueryAtNode, NodeRule, NodeCorollary, NodeInBatch, QueryClamped, HeldEdge, HeldInBatch}
 use Rattle.guarantees.proofs.Typing.{Typed}
@@ -55,7 +56,7 @@ module _ (f : Format) (premises : Type 0) (g : Grid) (kind : Supplied f premises
         go false e = rw (taken, e) refl
 
     -- a query before this one is placed, or the outcome would name one
-    earlier : (i : ℕ) → i < length before → (numberOf outcome ≡ 8 → queryOf outcome < i → ⊥) → (j : ℕ) → j < i → PlacedAt found j
+    earlier : (i : ℕ) → i < length before → ((numberOf outcome ≡ 8) ⊎ (numberOf outcome ≡ 9) → queryOf outcome < i → ⊥) → (j : ℕ) → j < i → PlacedAt found j
     earlier i h not-earlier j l = go (outcomeFrom found 0 (length before)) refl
       where
         told : outcome ≡ outcomeFrom found 0 (length before)
@@ -65,17 +66,18 @@ module _ (f : Format) (premises : Type 0) (g : Grid) (kind : Supplied f premises
         go Accepted e = accepted-all found (length before) e j (omega arith)
         go (Refused number q a) e =
             let w = refused-lowest found (length before) number q a e in
-            let eight : numberOf outcome ≡ 8 = ap numberOf (told ∙ e) ∙ w .0 in
+            let own = found-number 0 (g .axes) (queryAt (length before) queries q) number a (w .fails) in
+            let which : (numberOf outcome ≡ 8) ⊎ (numberOf outcome ≡ 9) = subst (λ (k : ℕ). (k ≡ 8) ⊎ (k ≡ 9)) (sym (ap numberOf (told ∙ e))) own in
             let here : queryOf outcome ≡ q = ap queryOf (told ∙ e) in
-            branch (ltb j q) refl w eight here
+            branch (ltb j q) refl w which here
           where
-            branch : (t : Bool) → ltb j q ≡ t → (number ≡ 8) × Lowest found (length before) q a → numberOf outcome ≡ 8 → queryOf outcome ≡ q → PlacedAt found j
-            branch true t w eight here = w .1 .before j (ltb-true j q t)
-            branch false t w eight here = absurd (not-earlier eight (let m = ltb-false j q t in omega arith))
+            branch : (t : Bool) → ltb j q ≡ t → Lowest found (length before) number q a → (numberOf outcome ≡ 8) ⊎ (numberOf outcome ≡ 9) → queryOf outcome ≡ q → PlacedAt found j
+            branch true t w which here = w .before j (ltb-true j q t)
+            branch false t w which here = absurd (not-earlier which (let m = ltb-false j q t in omega arith))
 
   -- a query whose rows are those of a node has the number stored there in its entry
   in-batch : (queries before after : List Float) (outcome : Outcome) → outcome ≡ interpOutcome f g queries before → after ≡ interpBuffer f g queries before → IsAccepted g
-      → (i : ℕ) (is : List ℕ) → i < length before → (numberOf outcome ≡ 7 → ⊥) → (numberOf outcome ≡ 8 → queryOf outcome < i → ⊥)
+      → (i : ℕ) (is : List ℕ) → i < length before → (numberOf outcome ≡ 7 → ⊥) → ((numberOf outcome ≡ 8) ⊎ (numberOf outcome ≡ 9) → queryOf outcome < i → ⊥)
       → NodeCase f g is (queryAt (length before) queries i) → T (eq (getD after i nan) (stored g is))
   in-batch queries before after outcome o b taken i is h not-seven not-earlier case =
       let ok = checked queries before after outcome o taken not-seven in

@@ -38,11 +38,11 @@ NodeCorollary premises g g' query answer answer' =
     (node : List ℕ) → QueryAtNode premises g node query → QueryAtNode premises g' node query
     → (v : Float) × (v' : Float) × (answer ≡ Value v) × (answer' ≡ Value v') × (eq v v' ≡ eq (stored g node) (stored g' node))
 
--- after `interp` the entry of a query that is at a node in some sense holds its number, unless the answer is 7, or 8 with an earlier query
+-- after `interp` the entry of a query that is at a node in some sense holds its number, unless the answer is 7, or 8 or 9 with an earlier query
 abbrev pub EntryHolds : (List ℕ → (ℕ → Float) → Type 0) → Grid → List Float → Outcome → List Float → List Float → Type 0
 EntryHolds at-node g queries outcome before after =
     (i : ℕ) (node : List ℕ) → i < length before → at-node node (queryAt (length before) queries i)
-    → (numberOf outcome ≡ 7 → ⊥) → (numberOf outcome ≡ 8 → queryOf outcome < i → ⊥)
+    → (numberOf outcome ≡ 7 → ⊥) → ((numberOf outcome ≡ 8) ⊎ (numberOf outcome ≡ 9) → queryOf outcome < i → ⊥)
     → T (eq (getD after i nan) (stored g node))
 
 -- 8.3

@@ -8,4 +8,5 @@ pub mod Gap
 pub mod Multiple
 pub mod Rank
 pub mod Order
+pub mod Nan
 pub mod Rises

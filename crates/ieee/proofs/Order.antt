@@ -358,7 +358,7 @@ lt-irrefl (fin false m e) = le-ltb (m * up e * down e) (m * up e * down e) (omeg
 lt-irrefl (fin true m e) = le-ltb (m * up e * down e) (m * up e * down e) (omega arith)
 
 -- what compares is no NaN
-numbers : (x y : Float) → le x y ≡ true → (isNan x ≡ false) × (isNan y ≡ false)
+pub numbers : (x y : Float) → le x y ≡ true → (isNan x ≡ false) × (isNan y ≡ false)
 numbers x y e = sides (isNan x) (isNan y) (lt y x) (sym (le-is x y) ∙ e)
   where
     sides : (p q r : Bool) → not (p || q || r) ≡ true → (p ≡ false) × (q ≡ false)

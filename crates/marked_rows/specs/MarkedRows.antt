@@ -8,7 +8,7 @@ use Rattle.multicubic.specs.declared.Saturation.{Saturation}
 use Rattle.multicubic.specs.declared.Saturation.the-variants.{None, InsideLow, OutsideLow, InsideHigh, OutsideHigh}
 use Rattle.multicubic.specs.declared.Marks.{Marks}
 use Rattle.multicubic.specs.declared.Loc.{Loc}
-use Rattle.multicubic.specs.declared.Loc.the-variants.{At, Unplaceable}
+use Rattle.multicubic.specs.declared.Loc.the-variants.{At, NotANumber, Unplaceable}
 use Rattle.multicubic.specs.Answers.{numberOf, placeOutcome}
 use Rattle.multicubic.specs.declared.EdgeMode.{EdgeMode}
 use Rattle.multicubic.specs.declared.EdgeMode.the-variants.{Cubic, Straight, Held}
@@ -36,6 +36,7 @@ axisOf f mode (rectilinear entries) = Rectilinear.axisIn f mode entries
 -- origin, class and whether the query is marked below or above, or the number of clause 2.2
 abbrev pub told : Marks → Loc → Told
 told m (At p) = place (p .origin) (p .class) (m .below) (m .above)
+told m NotANumber = refused (numberOf (placeOutcome 0 0 NotANumber))
 told m Unplaceable = refused (numberOf (placeOutcome 0 0 Unplaceable))
 
 abbrev pub answer : Format → EdgeMode → Row → Told

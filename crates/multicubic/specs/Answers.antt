@@ -9,7 +9,7 @@ use Rattle.multicubic.specs.declared.Answer.{Answer}
 use Rattle.multicubic.specs.declared.Answer.the-variants as Ans
 use Rattle.multicubic.specs.declared.Place.{Place}
 use Rattle.multicubic.specs.declared.Loc.{Loc}
-use Rattle.multicubic.specs.declared.Loc.the-variants.{At, Unplaceable}
+use Rattle.multicubic.specs.declared.Loc.the-variants.{At, NotANumber, Unplaceable}
 
 abbrev pub numberOf : Outcome → ℕ
 numberOf Accepted = 0
@@ -46,11 +46,13 @@ abbrev pub answered : Outcome → Float → Answer
 answered (Refused number query axis) value = Ans.Refused number query axis
 answered Accepted value = Ans.Value value
 
--- of a query's place on one axis: 8 where it is unplaceable
+-- of a query's place on one axis: 9 where its coordinate is no number, 8 where it is unplaceable
 abbrev pub placeOutcome : ℕ → ℕ → Loc → Outcome
 placeOutcome query axis (At place) = Accepted
+placeOutcome query axis NotANumber = Refused 9 query axis
 placeOutcome query axis Unplaceable = Refused 8 query axis
 
 abbrev pub placeIn : Loc → List Place
 placeIn (At place) = place ∷ []
+placeIn NotANumber = []
 placeIn Unplaceable = []

@@ -8,7 +8,7 @@ ghost use lib.ListN.{take};
 ghost use Rattle.multicubic.specs.Grid.{product, sum, anyOver, lowest, misjoined, sizeChecks};
 ghost use Rattle.multicubic.specs.Place.{straightOf, placeOf};
 ghost use Rattle.multicubic.specs.Internal.{fourNowhere, fourUnmarked};
-ghost use Rattle.multicubic.specs.Answers.{answerOutcome, answered};
+ghost use Rattle.multicubic.specs.Answers.{answerOutcome, answered, placeOutcome};
 ghost use Rattle.multicubic.specs.Same.{asAnswer};
 
 // Where a query lies on one axis.
@@ -28,6 +28,7 @@ pub struct Place {
 // What `get_loc` finds.
 pub enum Loc {
     At(Place),
+    NotANumber,
     Unplaceable,
 }
 
@@ -106,14 +107,22 @@ pub enum AxesLength {
     Joined(usize),
 }
 
-// Refusal 8.
-pub fn refused_query(query: usize, axis: usize) -> Outcome
-    ensures { λ r. ⌜ r ≡ Outcome.Refused 8 query axis ⌝ }
+// A query's refusal on an axis: 9 where its coordinate is no number, 8 where it is unplaceable.
+pub fn place_outcome(query: usize, axis: usize, loc: Loc) -> Outcome
+    ensures { λ r. ⌜ r ≡ placeOutcome query axis loc ⌝ }
 {
-    Outcome::Refused {
-        number: 8,
-        query,
-        axis,
+    match loc {
+        Loc::At(place) => Outcome::Accepted,
+        Loc::NotANumber => Outcome::Refused {
+            number: 9,
+            query,
+            axis,
+        },
+        Loc::Unplaceable => Outcome::Refused {
+            number: 8,
+            query,
+            axis,
+        },
     }
 }
 
@@ -197,6 +206,17 @@ pub fn nowhere() -> [Place; 4]
         class: Saturation::None,
     };
     [place; 4]
+}
+
+// What a refusal answers in place of places.
+pub fn unplaced(outcome: Outcome) -> PlaceAnswer
+    ensures { λ r. ⌜ r .outcome ≡ outcome ⌝ }
+    ensures { λ r. ⌜ r .places ≡ fourNowhere ⌝ }
+{
+    PlaceAnswer {
+        outcome,
+        places: nowhere(),
+    }
 }
 
 // Neither end, on four axes.

@@ -1,5 +1,6 @@
--- Section 8 on a rectilinear grid, and the ends of its axes.
+-- Section 8 on a rectilinear grid, the ends of its axes, and refusal 9.
 pub mod Laws
 pub mod Ends
+pub mod Missing
 pub mod Guarantees
 pub mod Examples

@@ -15,12 +15,14 @@ use lib.Ieee.Scale.{finite}
 use Rattle.ieee.proofs.ZeroOne.{Same}
 use Rattle.ieee.proofs.Cancel.{eq→same}
 use Rattle.ieee.proofs.Gap.{within}
+use Rattle.ieee.proofs.Nan.{eq-number}
 use Rattle.multicubic.specs.declared.Loc.the-variants.{At}
 use Rattle.multicubic.specs.declared.Saturation.{Saturation}
 use Rattle.multicubic.specs.declared.Saturation.the-variants.{None, InsideLow, OutsideLow, InsideHigh}
 use Rattle.multicubic.specs.declared.Place.{Place}
 use Rattle.multicubic.specs.Place.{placeOf, AxisOutcome, outcomeAt}
 use Rattle.multicubic.proofs.Nodes.{OneAt, AtNode}
+use Rattle.multicubic.proofs.Numbers.{of-number}
 use Rattle.multicubic.proofs.Places.{outside-low, inside-low, interior, inside-high}
 use Rattle.rectilinear_axis.specs.Place.{locOf}
 use Rattle.rectilinear_axis.specs.Weights.{weightsOf, weightsAt, derivativesAt}
@@ -92,7 +94,8 @@ module _ (f : Format) (straight : Bool) (g : List Float) (four : 4 ≤ length g)
           weights = weightsAt f g straight x place;
           derivatives = derivativesAt f g straight x place;
         };
-        is = ap (λ (k : ℕ). outcomeAt (weightsAt f g straight x) (derivativesAt f g straight x) (At (placeAt k))) (counted f g four held gaps x p i I at);
+        is = ap (outcomeAt (weightsAt f g straight x) (derivativesAt f g straight x))
+            (of-number x _ (eq-number x (getD g i nan) q) ∙ ap (λ (k : ℕ). At (placeAt k)) (counted f g four held gaps x p i I at));
         place-is = refl;
         low = r .0;
         row = r .1;

@@ -6,3 +6,4 @@ pub mod Blocks
 pub mod Count
 pub mod AtNodes
 pub mod Examples
+pub mod Missing

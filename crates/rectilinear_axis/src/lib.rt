@@ -6,7 +6,7 @@ ghost use lib.ListN.{length, getD};
 ghost use lib.Ieee.{binary64, nan, lt};
 ghost use Rattle.rectilinear_order.specs.Grid.{disorder};
 ghost use Rattle.multicubic.specs.Answers.{numberOf, placeOutcome, placeIn};
-ghost use Rattle.rectilinear_axis.specs.Place.{countBelow, locOf, locPlace};
+ghost use Rattle.rectilinear_axis.specs.Place.{countBelow, locOf, locNumber, locPlace};
 ghost use Rattle.rectilinear_axis.specs.Internal.{Test, Forward};
 ghost use Rattle.rectilinear_axis.specs.Weights.{weightsOf, derivativesOf, cellOf, weightsAt, derivativesAt};
 use interp_math::hermite_basis;
@@ -82,9 +82,12 @@ pub fn get_loc(grid: &[f64], v: f64) -> Loc
     requires { ⌜ 4 ≤ length (now grid) ⌝ }
     requires { ⌜ disorder (now grid) ≡ false ⌝ }
     ensures { λ r. ⌜ r ≡ locOf (now (grid .entry)) v ⌝ }
-    ensures { λ r. ⌜ numberOf (placeOutcome 0 0 r) ≡ 0 ⌝ }
+    ensures { λ r. ⌜ numberOf (placeOutcome 0 0 r) ≡ locNumber v ⌝ }
     ensures { λ r. ⌜ placeIn r ≡ locPlace (now (grid .entry)) v ⌝ }
 {
+    if v != v {
+        return Loc::NotANumber;
+    }
     let n = grid.len();
     Loc::At(place_from(n, partition_point(grid, v)))
 }

@@ -7,7 +7,7 @@ ghost use lib.ListN.{length, getD};
 ghost use lib.Ieee.{binary32, nan, lt};
 ghost use Rattle.rectilinear_order.specs.Grid.{disorder};
 ghost use Rattle.multicubic.specs.Answers.{numberOf, placeOutcome, placeIn};
-ghost use Rattle.rectilinear_axis.specs.Place.{countBelow, locOf, locPlace};
+ghost use Rattle.rectilinear_axis.specs.Place.{countBelow, locOf, locNumber, locPlace};
 ghost use Rattle.rectilinear_axis.specs.Internal.{Test, Forward};
 ghost use Rattle.rectilinear_axis.specs.Weights.{weightsOf, derivativesOf, cellOf, weightsAt, derivativesAt};
 use interp_math_f32::hermite_basis;
@@ -83,9 +83,12 @@ pub fn get_loc(grid: &[f32], v: f32) -> Loc
     requires { ⌜ 4 ≤ length (now grid) ⌝ }
     requires { ⌜ disorder (now grid) ≡ false ⌝ }
     ensures { λ r. ⌜ r ≡ locOf (now (grid .entry)) v ⌝ }
-    ensures { λ r. ⌜ numberOf (placeOutcome 0 0 r) ≡ 0 ⌝ }
+    ensures { λ r. ⌜ numberOf (placeOutcome 0 0 r) ≡ locNumber v ⌝ }
     ensures { λ r. ⌜ placeIn r ≡ locPlace (now (grid .entry)) v ⌝ }
 {
+    if v != v {
+        return Loc::NotANumber;
+    }
     let n = grid.len();
     Loc::At(place_from(n, partition_point(grid, v)))
 }

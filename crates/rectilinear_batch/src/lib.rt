@@ -20,7 +20,7 @@ use rectilinear::new;
 use rectilinear_query::answer_at;
 use reduction::strides;
 
-// What is asked of the queries, in order, up to the first that is unplaceable.
+// What is asked of the queries, in order, up to the first that is refused.
 fn fill(
     axis_count: usize,
     counts: [usize; 4],

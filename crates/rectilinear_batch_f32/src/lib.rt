@@ -21,7 +21,7 @@ use rectilinear_f32::new;
 use rectilinear_query_f32::answer_at;
 use reduction::strides;
 
-// What is asked of the queries, in order, up to the first that is unplaceable.
+// What is asked of the queries, in order, up to the first that is refused.
 fn fill(
     axis_count: usize,
     counts: [usize; 4],

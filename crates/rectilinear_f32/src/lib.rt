@@ -18,7 +18,8 @@ use multicubic::Outcome;
 use multicubic::PlaceAnswer;
 use multicubic::check_sizes;
 use multicubic::nowhere;
-use multicubic::refused_query;
+use multicubic::place_outcome;
+use multicubic::unplaced;
 use multicubic_f32::AnswerF32;
 use multicubic_f32::GradientAnswerF32;
 use multicubic_f32::MarkedAnswerF32;
@@ -49,7 +50,7 @@ pub fn new(axis_count: usize, counts: [usize; 4], axes: &[f32], vals: &[f32]) ->
     }
 }
 
-// A query's place on every axis, or refusal 8 with its lowest unplaceable axis.
+// A query's place on every axis, or the refusal of the lowest axis that refuses it, 9 or 8.
 fn locate(
     axis_count: usize,
     counts: [usize; 4],
@@ -69,11 +70,10 @@ fn locate(
         let replaced = replaced_at(&axes[start..end], given, mode);
         let used = hold(&axes[start..end], given, replaced);
         let loc = rectilinear_axis_f32::get_loc(&axes[start..end], used);
-        let Loc::At(place) = loc else {
-            return PlaceAnswer {
-                outcome: refused_query(0, i),
-                places: nowhere(),
-            };
+        let place = match loc {
+            Loc::At(place) => place,
+            Loc::NotANumber => return unplaced(place_outcome(0, i, loc)),
+            Loc::Unplaceable => return unplaced(place_outcome(0, i, loc)),
         };
         places[i] = place;
         start = end;
@@ -85,7 +85,7 @@ fn locate(
     }
 }
 
-// The place of a query on a grid: the grid's checks, then origin and class on every axis, or 8.
+// The place of a query on a grid: the grid's checks, then origin and class on every axis, or 9 or 8.
 fn find_place(
     axis_count: usize,
     counts: [usize; 4],
@@ -100,10 +100,7 @@ fn find_place(
 {
     let checked = new(axis_count, counts, axes, vals);
     match checked {
-        Outcome::Refused { .. } => PlaceAnswer {
-            outcome: checked,
-            places: nowhere(),
-        },
+        Outcome::Refused { .. } => unplaced(checked),
         Outcome::Accepted => locate(axis_count, counts, axes, mode, x),
     }
 }

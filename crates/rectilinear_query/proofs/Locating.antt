@@ -15,6 +15,7 @@ use Rattle.multicubic.specs.declared.Loc.the-variants.{At}
 use Rattle.multicubic.specs.declared.Outcome.the-variants.{Accepted}
 use Rattle.multicubic.specs.declared.Place.{Place}
 use Rattle.multicubic.specs.Grid.{lowest, sum, anyOver, sizeChecks}
+use Rattle.multicubic.proofs.Numbers.{placed-number}
 use Rattle.multicubic.proofs.Passed.{Passed, then-accepted, lowest-accepted}
 use Rattle.rectilinear_order.specs.Grid.{axesOf, notRising, disorder, orderChecks}
 use Rattle.rectilinear_axis.specs.Place.{countBelow}
@@ -65,7 +66,7 @@ pub axes-long : (f : Format) (mode : EdgeMode) (n : ℕ) (counts : List ℕ) (jo
 axes-long f mode n counts joined h = length-map (axesOf (take n counts) joined) (axisIn f mode) ∙ parts-length (take n counts) joined ∙ length-take-le n counts h
 
 roomy-axis : (f : Format) (straight : Bool) (entries : List Float) → 4 ≤ length entries → Roomy (gridAxis f straight entries)
-roomy-axis f straight entries h x p e = roomy-place (length entries) (pos (countBelow x entries) -ℤ pos 2) p h e
+roomy-axis f straight entries h x p e = roomy-place (length entries) (pos (countBelow x entries) -ℤ pos 2) p h (placed-number x _ p e .1)
 
 roomy-axes : (f : Format) (mode : EdgeMode) (cs : List ℕ) (joined : List Float) → length joined ≡ sum cs → Long cs → All Roomy (gridAxes f mode (axesOf cs joined))
 roomy-axes f mode [] joined e h = tt

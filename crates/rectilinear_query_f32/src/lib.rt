@@ -22,7 +22,7 @@ use multicubic::Outcome;
 use multicubic::Place;
 use multicubic::is_past;
 use multicubic::linearize_extrapolation;
-use multicubic::refused_query;
+use multicubic::place_outcome;
 use multicubic::unmarked;
 use multicubic_f32::AnswerF32;
 use multicubic_f32::answered;
@@ -143,8 +143,10 @@ pub fn answer_at(
         let replaced = replaced_at(&axes[start..end], given, mode);
         let used = hold(&axes[start..end], given, replaced);
         let loc = get_loc(&axes[start..end], used);
-        let Loc::At(place) = loc else {
-            return answered(refused_query(i, axis), 0.0);
+        let place = match loc {
+            Loc::At(place) => place,
+            Loc::NotANumber => return answered(place_outcome(i, axis, loc), 0.0),
+            Loc::Unplaceable => return answered(place_outcome(i, axis, loc), 0.0),
         };
         let derivative = is_component(quantity, axis);
         rows[axis] = row_at(

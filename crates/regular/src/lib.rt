@@ -26,7 +26,8 @@ use multicubic::answered;
 use multicubic::check_sizes;
 use multicubic::nowhere;
 use multicubic::outcome_of;
-use multicubic::refused_query;
+use multicubic::place_outcome;
+use multicubic::unplaced;
 use reduction::strides;
 use regular_axis::hold;
 use regular_query::answer_at;
@@ -67,7 +68,7 @@ pub fn new(axis_count: usize, axes: [Axis; 4], vals: &[f64]) -> Outcome
     }
 }
 
-// A query's place on every axis, or refusal 8 with its lowest unplaceable axis.
+// A query's place on every axis, or the refusal of the lowest axis that refuses it, 9 or 8.
 fn locate(axis_count: usize, axes: [Axis; 4], mode: EdgeMode, x: [f64; 4]) -> PlaceAnswer
     requires { ⌜ Taken «axis_count» axes ⌝ }
     ensures { λ r. ⌜ Located 0 (axesIn binary64 mode «axis_count» axes) (at x) r ⌝ }
@@ -79,11 +80,10 @@ fn locate(axis_count: usize, axes: [Axis; 4], mode: EdgeMode, x: [f64; 4]) -> Pl
         let replaced = replaced_at(axes[i], given, mode);
         let used = hold(axes[i], given, replaced);
         let loc = regular_axis::get_loc(axes[i], used);
-        let Loc::At(place) = loc else {
-            return PlaceAnswer {
-                outcome: refused_query(0, i),
-                places: nowhere(),
-            };
+        let place = match loc {
+            Loc::At(place) => place,
+            Loc::NotANumber => return unplaced(place_outcome(0, i, loc)),
+            Loc::Unplaceable => return unplaced(place_outcome(0, i, loc)),
         };
         places[i] = place;
         i += 1;
@@ -94,7 +94,7 @@ fn locate(axis_count: usize, axes: [Axis; 4], mode: EdgeMode, x: [f64; 4]) -> Pl
     }
 }
 
-// The place of a query on a grid: the grid's checks, then origin and class on every axis, or 8.
+// The place of a query on a grid: the grid's checks, then origin and class on every axis, or 9 or 8.
 fn find_place(
     axis_count: usize,
     axes: [Axis; 4],
@@ -108,10 +108,7 @@ fn find_place(
 {
     let checked = new(axis_count, axes, vals);
     match checked {
-        Outcome::Refused { .. } => PlaceAnswer {
-            outcome: checked,
-            places: nowhere(),
-        },
+        Outcome::Refused { .. } => unplaced(checked),
         Outcome::Accepted => locate(axis_count, axes, mode, x),
     }
 }

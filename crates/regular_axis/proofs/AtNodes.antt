@@ -15,11 +15,13 @@ use Rattle.ieee.specs.Numbers.{one}
 use Rattle.ieee.proofs.ZeroOne.{Same}
 use Rattle.ieee.proofs.Cancel.{one-fits, eq→same}
 use Rattle.ieee.proofs.Multiple.{Is, diff, is-zero, is-pos, is-neg}
+use Rattle.ieee.proofs.Nan.{eq-number}
 use Rattle.multicubic.specs.declared.Saturation.{Saturation}
 use Rattle.multicubic.specs.declared.Saturation.the-variants.{None, InsideLow, InsideHigh, OutsideHigh}
 use Rattle.multicubic.specs.declared.Loc.the-variants.{At}
 use Rattle.multicubic.specs.Place.{placeOf, AxisOutcome, outcomeAt}
 use Rattle.multicubic.proofs.Nodes.{OneAt, AtNode}
+use Rattle.multicubic.proofs.Numbers.{of-number}
 use Rattle.multicubic.proofs.Places.{inside-low, interior, inside-high, outside-high}
 use Rattle.regular_axis.specs.Place.{quotient, locOf}
 use Rattle.regular_axis.specs.Weights.{node, tOf, weightsOf, derivativesOf, weightsAt, derivativesAt}
@@ -71,7 +73,10 @@ module _ (f : Format) (straight : Bool) (start step : Float) (P : Premises start
           weights = weightsOf f c straight (tOf f start step o x);
           derivatives = derivativesOf f c straight (tOf f start step o x) (div f one step);
         };
-        is = ap (outcomeAt (weightsAt f start step straight x) (derivativesAt f start step straight x)) (loc-whole n i (quotient f start step x) (omega arith) (quotient-is f start step P i x (omega arith) same) ∙ ap At place);
+        is = ap (outcomeAt (weightsAt f start step straight x) (derivativesAt f start step straight x))
+            (of-number x _ (eq-number x (node f start step i) at)
+            ∙ loc-whole n i (quotient f start step x) (omega arith) (quotient-is f start step P i x (omega arith) same)
+            ∙ ap At place);
         place-is = sym place;
         low = omega arith;
         row = rw (← j-is, q) r;

@@ -25,6 +25,9 @@ pub fn get_loc(axis: AxisF32, v: f32) -> Loc
     ensures { λ r. ⌜ numberOf (placeOutcome 0 0 r) ≡ locNumber binary32 (axis .start) (axis .step) v ⌝ }
     ensures { λ r. ⌜ placeIn r ≡ locPlace binary32 (axis .start) (axis .step) (axis .count) v ⌝ }
 {
+    if v != v {
+        return Loc::NotANumber;
+    }
     let n = axis.count;
     let q = (v - axis.start) / axis.step;
     if q >= 0.0 {

@@ -22,7 +22,7 @@ use regular::new;
 use regular_query::answer_at;
 use regular_query::counts_of;
 
-// What is asked of the queries, in order, up to the first that is unplaceable.
+// What is asked of the queries, in order, up to the first that is refused.
 fn fill(
     axis_count: usize,
     axes: [Axis; 4],

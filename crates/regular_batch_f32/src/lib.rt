@@ -24,7 +24,7 @@ use regular_f32::new;
 use regular_query_f32::answer_at;
 use regular_query_f32::counts_of;
 
-// What is asked of the queries, in order, up to the first that is unplaceable.
+// What is asked of the queries, in order, up to the first that is refused.
 fn fill(
     axis_count: usize,
     axes: [AxisF32; 4],

@@ -20,7 +20,8 @@ use multicubic::Outcome;
 use multicubic::PlaceAnswer;
 use multicubic::check_sizes;
 use multicubic::nowhere;
-use multicubic::refused_query;
+use multicubic::place_outcome;
+use multicubic::unplaced;
 use multicubic_f32::AnswerF32;
 use multicubic_f32::AxisF32;
 use multicubic_f32::GradientAnswerF32;
@@ -68,7 +69,7 @@ pub fn new(axis_count: usize, axes: [AxisF32; 4], vals: &[f32]) -> Outcome
     }
 }
 
-// A query's place on every axis, or refusal 8 with its lowest unplaceable axis.
+// A query's place on every axis, or the refusal of the lowest axis that refuses it, 9 or 8.
 fn locate(axis_count: usize, axes: [AxisF32; 4], mode: EdgeMode, x: [f32; 4]) -> PlaceAnswer
     requires { ⌜ Taken «axis_count» axes ⌝ }
     ensures { λ r. ⌜ Located 0 (axesIn binary32 mode «axis_count» (asAxes axes)) (at x) r ⌝ }
@@ -80,11 +81,10 @@ fn locate(axis_count: usize, axes: [AxisF32; 4], mode: EdgeMode, x: [f32; 4]) ->
         let replaced = replaced_at(axes[i], given, mode);
         let used = hold(axes[i], given, replaced);
         let loc = regular_axis_f32::get_loc(axes[i], used);
-        let Loc::At(place) = loc else {
-            return PlaceAnswer {
-                outcome: refused_query(0, i),
-                places: nowhere(),
-            };
+        let place = match loc {
+            Loc::At(place) => place,
+            Loc::NotANumber => return unplaced(place_outcome(0, i, loc)),
+            Loc::Unplaceable => return unplaced(place_outcome(0, i, loc)),
         };
         places[i] = place;
         i += 1;
@@ -95,7 +95,7 @@ fn locate(axis_count: usize, axes: [AxisF32; 4], mode: EdgeMode, x: [f32; 4]) ->
     }
 }
 
-// The place of a query on a grid: the grid's checks, then origin and class on every axis, or 8.
+// The place of a query on a grid: the grid's checks, then origin and class on every axis, or 9 or 8.
 fn find_place(
     axis_count: usize,
     axes: [AxisF32; 4],
@@ -109,10 +109,7 @@ fn find_place(
 {
     let checked = new(axis_count, axes, vals);
     match checked {
-        Outcome::Refused { .. } => PlaceAnswer {
-            outcome: checked,
-            places: nowhere(),
-        },
+        Outcome::Refused { .. } => unplaced(checked),
         Outcome::Accepted => locate(axis_count, axes, mode, x),
     }
 }

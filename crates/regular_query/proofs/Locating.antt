@@ -16,6 +16,7 @@ use Rattle.multicubic.specs.declared.EdgeMode.{EdgeMode}
 use Rattle.multicubic.specs.declared.Loc.the-variants.{At, Unplaceable}
 use Rattle.multicubic.specs.declared.Place.{Place}
 use Rattle.multicubic.specs.Place.{placeOf}
+use Rattle.multicubic.proofs.Numbers.{placed-number}
 use Rattle.multicubic.proofs.Passed.{Passed}
 use Rattle.multicubic.proofs.Sizes.{count-within}
 use Rattle.regular_axis.specs.Place.{quotient, floorOf, refused8}
@@ -52,7 +53,7 @@ pub axes-long : (f : Format) (mode : EdgeMode) (n : ℕ) (axes : List Axis) → 
 axes-long f mode n axes h = axes-length f mode (take n axes) ∙ length-take-le n axes h
 
 roomy-axis : (f : Format) (straight : Bool) (a : Axis) → 4 ≤ a .count → Roomy (gridAxis f straight a)
-roomy-axis f straight a h x p e = go (refused8 (quotient f (a .start) (a .step) x)) e
+roomy-axis f straight a h x p e = go (refused8 (quotient f (a .start) (a .step) x)) (placed-number x _ p e .1)
   where
     go : (b : Bool) → cond b Unplaceable (At (placeOf (a .count) (floorOf (quotient f (a .start) (a .step) x) -ℤ pos 1))) ≡ At p → p .origin + 4 ≤ a .count
     go true e = absurd (let y : _≡_ {A = ℕ} 0 1 = cc in omega arith)

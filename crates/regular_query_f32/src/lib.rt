@@ -22,7 +22,7 @@ use multicubic::Outcome;
 use multicubic::Place;
 use multicubic::is_past;
 use multicubic::linearize_extrapolation;
-use multicubic::refused_query;
+use multicubic::place_outcome;
 use multicubic::unmarked;
 use multicubic_f32::AnswerF32;
 use multicubic_f32::AxisF32;
@@ -137,8 +137,10 @@ pub fn answer_at(
         let replaced = replaced_at(axes[axis], given, mode);
         let used = hold(axes[axis], given, replaced);
         let loc = get_loc(axes[axis], used);
-        let Loc::At(place) = loc else {
-            return answered(refused_query(i, axis), 0.0);
+        let place = match loc {
+            Loc::At(place) => place,
+            Loc::NotANumber => return answered(place_outcome(i, axis, loc), 0.0),
+            Loc::Unplaceable => return answered(place_outcome(i, axis, loc), 0.0),
         };
         let derivative = is_component(quantity, axis);
         rows[axis] = row_at(axes[axis], used, place, straight, derivative, replaced);

@@ -44,7 +44,7 @@ slicesOf n shortest refusal = refuse (ltb shortest n) 3 then refuse (ltb refusal
 unfoldable pub querySlicesOf : ℕ → ℕ → ℕ → ℕ → ℕ → ℕ → ℕ → Outcome
 querySlicesOf n shortest query refusal room need marks = slicesOf n (min shortest query) refusal then refuse (ltb room need) 7 then refuse (ltb marks n) 7
 
--- of the slices' refusal and the grid's own the one with the lower number, since the checks run in the order of their numbers
+-- of the slices' refusal and the grid's own the one with the lower number, since checks 1 to 7 run in the order of their numbers
 abbrev pub lower : Outcome → Outcome → Outcome
 lower Accepted checked = checked
 lower (Refused number query axis) Accepted = Refused number query axis

@@ -1,8 +1,12 @@
 //! Compares libcapi.a with the original Rust over random grids and queries; with f32, libcapi_f32.a with the Rust at f32.
-//!   compare [f32] QUERIES SEED
+//!   compare [f32] QUERIES SEED        as many queries in cubic and straight, and as many in held
 //! Compared: numbers, query and axis of a refusal, places, values, gradients, batches, and every entry of every
 //! buffer, those that must stay as they were too. By their bits, except that any NaN answer matches any NaN.
 //! Left out, and counted: queries whose quotient is exactly -2^63 on some axis, where the two are meant to differ.
+//! Queries with a NaN coordinate are ours alone, since the two are meant to differ there too: those that are drawn are taken
+//! out of the comparison, more are made, and each is asked by every single call and in a batch of values and of gradients.
+//! Expected is the refusal of the lowest axis that refuses: 9 where its coordinate is a NaN, 8 where it is a number that the
+//! Rust cannot place. Their draws are their own as well.
 //! Each grid is then asked in held too, which the Rust does not have: a check on us, and no reference, by what
 //! src/held.rs works out. Its draws are its own, so that those of cubic and straight are the same with it and without.
 //! Mode numbers that are none are ours alone as well: they are refused with 3, and 1 and 2 come first.
@@ -110,6 +114,13 @@ struct Queries<T> {
     used: Vec<Vec<T>>,
 }
 impl<T: Width> Queries<T> {
+    fn none(axes: usize) -> Queries<T> {
+        Queries { given: vec![vec![]; axes], used: vec![vec![]; axes] }
+    }
+    fn push(&mut self, given: &[T], used: &[T]) {
+        self.given.iter_mut().zip(given).for_each(|(column, &x)| column.push(x));
+        self.used.iter_mut().zip(used).for_each(|(column, &x)| column.push(x));
+    }
     fn len(&self) -> usize {
         self.given[0].len()
     }
@@ -150,12 +161,20 @@ struct Counts {
     queries: u64,
     left_out: u64,
     unplaceable: u64,
+    /// Coordinates that are numbers and have a NaN as their quotient.
+    no_quotient: u64,
     nan: u64,
     batches: u64,
     stopped: u64,
     single: u64,
     lengths: u64,
     by: BTreeMap<String, u64>,
+    /// Queries with a NaN, ours alone: those taken out of the draws, by kind; all of them, by the axis of their 9, or with 8
+    /// since an axis below the NaN is unplaceable; all of them by kind and mode, and their batches by the number that stops them.
+    taken_out: [u64; 2],
+    nines: [u64; 4],
+    eights: u64,
+    missing: BTreeMap<String, u64>,
     /// Held: components by a row of four +0 that came out as +0, -0, NaN.
     flat: [u64; 3],
     /// Calls with a mode number that is none, by the number of their refusal, and which mode numbers they were.
@@ -167,6 +186,7 @@ impl Counts {
     fn print(&self) {
         println!("{:10} queries compared in {} batches", self.queries, self.batches);
         println!("{:10} of them unplaceable", self.unplaceable);
+        println!("{:10} coordinates with a NaN quotient", self.no_quotient);
         println!("{:10} batches with an unplaceable query in the middle", self.stopped);
         println!("{:10} answers that are NaN", self.nan);
         println!("{:10} queries compared by the single calls too (get_loc, interp_one, interp_one_grad)", self.single);
@@ -175,10 +195,32 @@ impl Counts {
         for (what, count) in &self.by {
             println!("{count:10} {what}");
         }
+        let nines: u64 = self.nines.iter().sum();
+        println!("queries with a NaN coordinate, ours alone, by the single calls and in a batch");
+        let [regular, rectilinear] = self.taken_out;
+        println!("{:10} taken out of the comparison: {regular} regular, {rectilinear} rectilinear", regular + rectilinear);
+        println!("{:10} in all, with those that were made", nines + self.eights);
+        println!("{nines:10} refused with 9, on the axes 0 to 3: {:?}", self.nines);
+        println!("{:10} refused with 8, an axis below the NaN being unplaceable", self.eights);
+        for (what, count) in &self.missing {
+            println!("{count:10} {what}");
+        }
     }
 }
 
-/// The batch calls over queries from..to; gives the first unplaceable query of them.
+/// What is expected of a query as it is used: the number and the axis of the lowest axis that refuses it, 9 where its
+/// coordinate is a NaN, 8 where it is a number that the Rust cannot place.
+fn refusal_of<T: Width>(reader: &dyn Reader<T>, used: &[T]) -> Option<(u8, usize)> {
+    let axis = (0..used.len()).find(|&d| used[d].is_nan() || reader.place(used[d], d).is_none())?;
+    Some((if used[axis].is_nan() { 9 } else { 8 }, axis))
+}
+
+fn any_nan<T: Width>(x: &[T]) -> bool {
+    x.iter().any(|x| x.is_nan())
+}
+
+/// The batch calls over queries from..to; gives the number, query and axis with which they are refused. The Rust is asked for
+/// the queries before the first with a NaN.
 fn batch<T: Calls>(
     g: &Grid<T>,
     reader: &dyn Reader<T>,
@@ -186,38 +228,41 @@ fn batch<T: Calls>(
     from: usize,
     to: usize,
     k: &mut Counts,
-) -> Result<Option<usize>, String> {
+) -> Result<Option<(u8, usize, usize)>, String> {
     let (n, c) = (queries.given.len(), to - from);
-    let parts: Vec<&[T]> = queries.used.iter().map(|x| &x[from..to]).collect();
+    let m = queries.used.iter().filter_map(|x| x[from..to].iter().position(|x| x.is_nan())).min().unwrap_or(c);
+    let parts: Vec<&[T]> = queries.used.iter().map(|x| &x[from..from + m]).collect();
     let joined: Vec<T> = queries.given.iter().flat_map(|x| &x[from..to]).copied().collect();
 
-    let mut out: Vec<T> = (0..c).map(T::untouched).collect();
+    let mut out: Vec<T> = (0..m).map(T::untouched).collect();
     let taken = reader.batch(&parts, &mut out);
-    let first = (0..c).find(|&i| out[i].bits() == T::untouched(i).bits());
-    let mut expected = (0, 0, 0);
-    if let Some(q) = first {
-        let axis = (0..n).find(|&d| reader.place(parts[d][q], d).is_none());
-        expected = (8, q, axis.ok_or("the Rust's batch stopped at a query that it can place")?);
-    }
+    let first = (0..m).find(|&i| out[i].bits() == T::untouched(i).bits());
     let agrees = |result: Result<(), Message>| result == if first.is_some() { Err(UNPLACEABLE) } else { Ok(()) };
-    if !agrees(taken) || (first.unwrap_or(c)..c).any(|i| out[i].bits() != T::untouched(i).bits()) {
+    if !agrees(taken) || (first.unwrap_or(m)..m).any(|i| out[i].bits() != T::untouched(i).bits()) {
         return Err("the Rust's batch of values is not what was assumed of it".into());
     }
-    let mut grad: Vec<T> = (0..n * c).map(T::untouched).collect();
-    let taken = if c == 0 {
+    let mut grad: Vec<T> = (0..n * m).map(T::untouched).collect();
+    let taken = if m == 0 {
         reader.batch_grad(&parts, &mut (0..n).map(|_| &mut [][..]).collect::<Vec<&mut [T]>>())
     } else {
-        reader.batch_grad(&parts, &mut grad.chunks_mut(c).collect::<Vec<_>>())
+        reader.batch_grad(&parts, &mut grad.chunks_mut(m).collect::<Vec<_>>())
     };
-    let done = first.unwrap_or(c);
-    if !agrees(taken) || (0..n * c).any(|i| (grad[i].bits() == T::untouched(i).bits()) != (i % c >= done)) {
+    let done = first.unwrap_or(m);
+    if !agrees(taken) || (0..n * m).any(|i| (grad[i].bits() == T::untouched(i).bits()) != (i % m >= done)) {
         return Err("the Rust's batch of gradients is not what was assumed of it".into());
     }
+    let mut stop = None;
+    if done < c {
+        let refusal = refusal_of(reader, &queries.used(from + done));
+        let (number, axis) = refusal.ok_or("the Rust's batch stopped at a query that it can place")?;
+        stop = Some((number, done, axis));
+    }
+    let expected = stop.unwrap_or((0, 0, 0));
     if g.mode == HELD {
         for i in 0..done {
-            let mut gradient: Vec<T> = (0..n).map(|d| grad[d * c + i]).collect();
+            let mut gradient: Vec<T> = (0..n).map(|d| grad[d * m + i]).collect();
             expect(g, reader, &queries.given(from + i), &queries.used(from + i), out[i], &mut gradient, k)?;
-            (0..n).for_each(|d| grad[d * c + i] = gradient[d]);
+            (0..n).for_each(|d| grad[d * m + i] = gradient[d]);
         }
     }
 
@@ -239,7 +284,7 @@ fn batch<T: Calls>(
     outcome("interp_grad", number, &refusal, expected)?;
     for d in 0..n {
         for i in 0..done {
-            answer("interp_grad", from + i, &lent, d * c + i, grad[d * c + i])?;
+            answer("interp_grad", from + i, &lent, d * c + i, grad[d * m + i])?;
         }
         if !(done..c).all(|i| lent.kept(d * c + i)) {
             return Err("interp_grad: an entry was written that must stay".into());
@@ -249,30 +294,33 @@ fn batch<T: Calls>(
         return Err("interp_grad: an entry was written outside the buffer".into());
     }
     k.batches += 1;
-    k.stopped += (first.is_some() && done > 0 && done + 1 < c) as u64;
-    Ok(first)
+    k.stopped += (stop.is_some() && done > 0 && done + 1 < c) as u64;
+    Ok(stop)
 }
 
-/// The three single calls on query i.
+/// The three single calls on query i; gives the number and axis with which they are refused. Where it has a NaN, the Rust is
+/// not asked for an answer.
 fn single<T: Calls>(
     g: &Grid<T>,
     reader: &dyn Reader<T>,
     queries: &Queries<T>,
     i: usize,
     k: &mut Counts,
-) -> Result<(), String> {
-    let (x, used) = (&queries.given(i)[..], &queries.used(i)[..]);
-    let n = x.len();
-    let places: Vec<Option<(usize, u8)>> = (0..n).map(|d| reader.place(used[d], d)).collect();
-    let bad = places.iter().position(|p| p.is_none());
-    let expected = bad.map_or((0, 0, 0), |axis| (8, 0, axis));
+) -> Result<Option<(u8, usize)>, String> {
+    let (given, used) = (&queries.given(i)[..], &queries.used(i)[..]);
+    let n = used.len();
+    let asked = !any_nan(used);
+    let bad = refusal_of(reader, used);
+    let expected = bad.map_or((0, 0, 0), |(number, axis)| (number, 0, axis));
     let written = if bad.is_some() { 0 } else { n };
+    // Past the axis count no coordinate is looked at, and NaN there are no matter.
+    let x = &[given, &[T::NAN; 3][..i % 4]].concat()[..];
 
     let (mut refusal, mut origins, mut classes, mut marks) = (wholes(4), wholes(n + 2), bytes(n + 2), bytes(n + 2));
     let number = T::get_loc(g, x, refusal.part(), origins.part(), classes.part(), marks.part());
     outcome("get_loc", number, &refusal, expected)?;
     for d in 0..written {
-        let (ours, expected) = ((origins.at(d), classes.at(d)), places[d].unwrap());
+        let (ours, expected) = ((origins.at(d), classes.at(d)), reader.place(used[d], d).unwrap());
         if ours != expected {
             return Err(format!("get_loc: query {i}, axis {d}: {ours:?}, expected {expected:?}"));
         }
@@ -284,7 +332,7 @@ fn single<T: Calls>(
     let (mut refusal, mut value, mut marks) = (wholes(4), floats(3), bytes(n + 2));
     let number = T::interp_one(g, x, refusal.part(), value.part(), marks.part());
     outcome("interp_one", number, &refusal, expected)?;
-    let rust = reader.one(used);
+    let rust = if asked { reader.one(used) } else { Err(UNPLACEABLE) };
     match rust {
         Ok(rust) => answer("interp_one", i, &value, 0, rust)?,
         Err(_) if bad.is_some() => {}
@@ -298,9 +346,9 @@ fn single<T: Calls>(
     let number = T::interp_one_grad(g, x, refusal.part(), gradient.part(), marks.part());
     outcome("interp_one_grad", number, &refusal, expected)?;
     let mut slopes = vec![T::zero(); n];
-    match reader.one_grad(used, &mut slopes) {
+    match if asked { reader.one_grad(used, &mut slopes) } else { Err(UNPLACEABLE) } {
         Ok(()) => {
-            expect(g, reader, x, used, rust?, &mut slopes, k)?;
+            expect(g, reader, given, used, rust?, &mut slopes, k)?;
             (0..n).try_for_each(|d| answer("interp_one_grad", i, &gradient, d, slopes[d]))?
         }
         Err(_) if bad.is_some() => {}
@@ -310,10 +358,11 @@ fn single<T: Calls>(
         return Err("interp_one_grad: an entry was written that must stay".into());
     }
     k.single += 1;
-    Ok(())
+    Ok(bad)
 }
 
-/// A query or answer buffer of a wrong length, which both refuse without writing anything.
+/// A query or answer buffer of a wrong length, which both refuse without writing anything; every other time with a NaN as the
+/// first coordinate, since 7 comes before 9.
 fn wrong_length<T: Calls>(
     g: &Grid<T>,
     reader: &dyn Reader<T>,
@@ -323,6 +372,9 @@ fn wrong_length<T: Calls>(
 ) -> Result<(), String> {
     let (n, c) = (columns.len(), columns[0].len());
     let (mut queries, mut lengths) = (columns.to_vec(), vec![c; n]);
+    if k.lengths % 2 == 1 {
+        queries[0].iter_mut().take(1).for_each(|x| *x = T::NAN);
+    }
     let other = if c > 0 && r.coin() { c - 1 } else { c + 1 };
     let spoiled = r.below(n);
     let mut values = c;
@@ -360,13 +412,16 @@ fn wrong_length<T: Calls>(
     Ok(())
 }
 
-/// A grid that `new` refuses: all six calls give its number and write nothing but the refusal.
-fn refused<T: Calls>(g: &Grid<T>, message: Message, r: &mut Rng, k: &mut Counts) -> Result<(), String> {
+/// A grid that `new` refuses with this number and axis: all six calls give them and write nothing but the refusal, whatever
+/// the queries are; half the time they are NaN.
+fn refused<T: Calls>(g: &Grid<T>, (number, axis): (u8, usize), r: &mut Rng, k: &mut Counts) -> Result<(), String> {
     let n = g.counts.len();
     let c = r.below(4);
-    let (number, axis) = refusal(g, message);
     let expected = (number, 0, axis);
-    let x: Vec<T> = (0..n * c.max(1)).map(|_| special(r)).collect();
+    let mut x: Vec<T> = (0..n * c.max(1)).map(|_| special(r)).collect();
+    if c % 2 == 1 {
+        x.fill(T::NAN);
+    }
     let check = |call: &str, number: u8, refusal: Lent<usize>, lent: &[&Lent<T>]| {
         outcome(call, number, &refusal, expected)?;
         if lent.iter().all(|x| x.rest_kept(0)) { Ok(()) } else { Err(format!("{call}: an entry was written on {number}")) }
@@ -445,9 +500,12 @@ fn coordinate<T: Width>(r: &mut Rng, a: &Axis<T>, odd: usize) -> T {
 /// The queries, asked of both sides in the grid's mode: in batches, and some of them singly.
 fn asked<T: Calls>(g: &Grid<T>, queries: &Queries<T>, r: &mut Rng, k: &mut Counts) -> Result<(), String> {
     let size = queries.len();
-    let kind = if g.rectilinear { "rectilinear" } else { "regular" };
-    *k.by.entry(format!("queries, {kind}, axis count {}", g.counts.len())).or_default() += size as u64;
+    assert!(!queries.given.iter().any(|column| any_nan(column)));
+    *k.by.entry(format!("queries, {}, axis count {}", kind(g), g.counts.len())).or_default() += size as u64;
     k.queries += size as u64;
+    for (x, (&start, &step)) in queries.used.iter().zip(g.starts.iter().zip(&g.steps)) {
+        k.no_quotient += x.iter().filter(|&&x| ((x - start) / step).is_nan()).count() as u64;
+    }
     read(g, |reader| -> Result<(), String> {
         let reader = reader.map_err(|message| format!("the Rust refuses a grid meant to be taken: {message}"))?;
         let mut refusal = wholes(4);
@@ -459,7 +517,7 @@ fn asked<T: Calls>(g: &Grid<T>, queries: &Queries<T>, r: &mut Rng, k: &mut Count
         // The whole batch; where it stops, what is left in smaller ones.
         let (mut from, mut to) = (0, size);
         loop {
-            let Some(q) = batch(g, reader, queries, from, to, k)? else {
+            let Some((_, q, _)) = batch(g, reader, queries, from, to, k)? else {
                 if to == size {
                     break;
                 }
@@ -489,14 +547,144 @@ fn asked<T: Calls>(g: &Grid<T>, queries: &Queries<T>, r: &mut Rng, k: &mut Count
     })
 }
 
+fn kind<T>(g: &Grid<T>) -> &'static str {
+    if g.rectilinear { "rectilinear" } else { "regular" }
+}
+
+/// Any NaN: of either sign, quiet or signalling.
+fn nan<T: Width>(r: &mut Rng) -> T {
+    let payload = (r.next() >> (65 - T::DIGITS)).max(1);
+    T::from_bits(T::INFINITY.bits() | payload | (r.next() & 1) << (T::SIZE - 1))
+}
+
+/// A query with a NaN on some axis; beside it now and then another NaN, or a number that regular axes as a rule cannot place.
+fn with_nan<T: Width>(axes: &[Axis<T>], mode: u8, r: &mut Rng) -> Vec<T> {
+    let at = r.below(axes.len());
+    axes.iter()
+        .enumerate()
+        .map(|(d, a)| match r.below(8) {
+            _ if d == at => nan(r),
+            0 => nan(r),
+            1 | 2 => r.pick(&[T::INFINITY, T::NEG_INFINITY, T::MAX, -T::MAX]),
+            _ if mode == HELD => held::coordinate(r, a, 10),
+            _ => coordinate(r, a, 10),
+        })
+        .collect()
+}
+
+/// Queries with a NaN, of ours alone: those that were taken out of the draws, and some that are made here. Each is asked by the
+/// single calls, and in a batch after some of the queries that are numbers and before others of either sort. Those before it are
+/// asked of the Rust again, and counted no more.
+fn missing<T: Calls>(
+    g: &Grid<T>,
+    axes: &[Axis<T>],
+    numbers: &Queries<T>,
+    mut nans: Queries<T>,
+    r: &mut Rng,
+    k: &mut Counts,
+) -> Result<(), String> {
+    k.taken_out[g.rectilinear as usize] += nans.len() as u64;
+    for _ in 0..r.below(8) {
+        let given = with_nan(axes, g.mode, r);
+        let used = used_in(g.mode, axes, &given);
+        if !apart(axes, &used) {
+            nans.push(&given, &used);
+        }
+    }
+    let modes = ["cubic", "straight", "held"];
+    *k.missing.entry(format!("queries, {}, {}", kind(g), modes[g.mode as usize])).or_default() += nans.len() as u64;
+    let mut aside = Counts::default();
+    read(g, |reader| -> Result<(), String> {
+        let reader = reader.map_err(|message| format!("the Rust refuses a grid meant to be taken: {message}"))?;
+        for i in 0..nans.len() {
+            let told = |e: String| format!("{e}\na query with a NaN: {:?}, mode {}\n{g:?}", nans.given(i), g.mode);
+            match single(g, reader, &nans, i, &mut aside).map_err(told)?.ok_or("no refusal of a NaN is expected")? {
+                (9, axis) => k.nines[axis] += 1,
+                _ => k.eights += 1,
+            }
+            let mut queries = Queries::none(axes.len());
+            let size = numbers.len();
+            let most = if r.one_in(200) { size } else { size.min(8) };
+            let before = r.below(most + 1);
+            let from = r.below(size - before + 1);
+            (from..from + before).for_each(|j| queries.push(&numbers.given(j), &numbers.used(j)));
+            queries.push(&nans.given(i), &nans.used(i));
+            for _ in 0..r.below(6) {
+                let of = if size == 0 || r.one_in(3) { &nans } else { numbers };
+                let j = r.below(of.len());
+                queries.push(&of.given(j), &of.used(j));
+            }
+            let stop = batch(g, reader, &queries, 0, queries.len(), &mut aside).map_err(told)?;
+            let (number, ..) = stop.ok_or("no refusal of a NaN is expected")?;
+            *k.missing.entry(format!("batches stopped by {number}")).or_default() += 1;
+        }
+        Ok(())
+    })
+}
+
+/// The order of 9 and 8 in plain cases, in figures that are worked out nowhere. All values are NaN.
+fn figures<T: Calls>() -> Result<(), String> {
+    let [nan, inf, inside] = [T::NAN, T::INFINITY, T::of(1.5)];
+    let regular = |start: T| [start, T::zero()].map(|start| Axis::Regular { start, step: T::one(), n: 4 });
+    let (plain, no_start, far_start) = (regular(T::zero()), regular(nan), regular(inf));
+    let uneven = [(); 2].map(|()| Axis::Rectilinear([0.0, 1.0, 2.0, 4.0].map(T::of).to_vec()));
+    // Number and axis in cubic and in straight, and in held; zeros where there is no refusal.
+    for (axes, x, given, held) in [
+        (&plain, [inside, inside], (0, 0), (0, 0)),
+        (&plain, [nan, inside], (9, 0), (9, 0)),
+        (&plain, [inside, nan], (9, 1), (9, 1)),
+        (&plain, [nan, nan], (9, 0), (9, 0)),
+        (&plain, [inf, nan], (8, 0), (9, 1)),
+        (&plain, [-inf, nan], (8, 0), (9, 1)),
+        (&plain, [nan, inf], (9, 0), (9, 0)),
+        (&plain, [inside, inf], (8, 1), (0, 0)),
+        (&uneven, [inside, inside], (0, 0), (0, 0)),
+        (&uneven, [nan, inside], (9, 0), (9, 0)),
+        (&uneven, [inside, nan], (9, 1), (9, 1)),
+        (&uneven, [nan, nan], (9, 0), (9, 0)),
+        (&uneven, [inf, nan], (9, 1), (9, 1)),
+        (&uneven, [nan, inf], (9, 0), (9, 0)),
+        (&uneven, [inf, -inf], (0, 0), (0, 0)),
+        (&no_start, [inside, nan], (8, 0), (8, 0)),
+        (&no_start, [nan, inside], (9, 0), (9, 0)),
+        (&far_start, [inf, nan], (8, 0), (8, 0)),
+        (&far_start, [nan, nan], (9, 0), (9, 0)),
+    ] {
+        for mode in [CUBIC, STRAIGHT, HELD] {
+            let g = Grid::new(axes, vec![nan; 16], mode);
+            let mut queries = Queries::none(2);
+            [x, [nan; 2]].iter().for_each(|x| queries.push(x, &used_in(mode, axes, x)));
+            let alone = if mode == HELD { held } else { given };
+            let batched = if alone.0 == 0 { (9, 1, 0) } else { (alone.0, 0, alone.1) };
+            read(&g, |reader| -> Result<(), String> {
+                let (reader, mut aside) = (reader?, Counts::default());
+                let worked_out = (single(&g, reader, &queries, 0, &mut aside)?, batch(&g, reader, &queries, 0, 2, &mut aside)?);
+                let same = worked_out == (Some(alone).filter(|a| a.0 > 0), Some(batched));
+                if same { Ok(()) } else { Err(format!("{worked_out:?}, in figures {alone:?} and {batched:?}")) }
+            })
+            .map_err(|e| format!("{e}\n{x:?}, mode {mode}\n{g:?}"))?;
+        }
+    }
+    Ok(())
+}
+
+/// A query as it is used in a mode.
+fn used_in<T: Width>(mode: u8, axes: &[Axis<T>], given: &[T]) -> Vec<T> {
+    axes.iter().zip(given).map(|(a, &x)| if mode == HELD { held::used(a, x) } else { x }).collect()
+}
+
+/// Whether a quotient is exactly -2^63.
+fn apart<T: Width>(axes: &[Axis<T>], used: &[T]) -> bool {
+    axes.iter().zip(used).any(|(a, &x)| a.apart(x))
+}
+
 /// What is counted of the queries in held.
-const COUNTED: [&str; 11] = [
+const COUNTED: [&str; 10] = [
     "queries with a replaced axis",
     "queries without a replaced axis",
     "coordinates not replaced",
     "coordinates not replaced: at the first or the last node",
     "coordinates not replaced: at such a node, as the other zero",
-    "coordinates not replaced: NaN",
     "coordinates replaced by the first node",
     "coordinates replaced by the last node",
     "coordinates replaced: infinite",
@@ -504,17 +692,21 @@ const COUNTED: [&str; 11] = [
     "coordinates replaced: unplaceable as given",
 ];
 
-/// Queries to the same axes in held.
-fn held_queries<T: Width>(axes: &[Axis<T>], r: &mut Rng, k: &mut Counts) -> Queries<T> {
+/// Queries to the same axes in held, and those among them with a NaN.
+fn held_queries<T: Width>(axes: &[Axis<T>], r: &mut Rng, k: &mut Counts) -> (Queries<T>, Queries<T>) {
     let size = if r.one_in(5) { r.below(12) } else { r.range(50, 1000) as usize };
     let odd = r.pick(&[0, 0, 0, 10, 100, 1000]);
-    let mut queries = Queries { given: vec![vec![]; axes.len()], used: vec![vec![]; axes.len()] };
+    let (mut queries, mut nans) = (Queries::none(axes.len()), Queries::none(axes.len()));
     let mut counted = [0; COUNTED.len()];
     for _ in 0..size {
         let given: Vec<T> = axes.iter().map(|a| held::coordinate(r, a, odd)).collect();
-        let used: Vec<T> = axes.iter().zip(&given).map(|(a, &x)| held::used(a, x)).collect();
-        if axes.iter().zip(&used).any(|(a, &x)| a.apart(x)) {
+        let used = used_in(HELD, axes, &given);
+        if apart(axes, &used) {
             k.left_out += 1;
+            continue;
+        }
+        if any_nan(&given) {
+            nans.push(&given, &used);
             continue;
         }
         let mut any = false;
@@ -532,7 +724,6 @@ fn held_queries<T: Width>(axes: &[Axis<T>], r: &mut Rng, k: &mut Counts) -> Quer
                 !replaced,
                 ends.contains(&x),
                 ends.iter().any(|e| e.is_zero() && x.is_zero() && e.bits() != x.bits()),
-                x.is_nan(),
                 replaced && x < ends[0],
                 replaced && x > ends[1],
                 replaced && x.is_infinite(),
@@ -546,13 +737,12 @@ fn held_queries<T: Width>(axes: &[Axis<T>], r: &mut Rng, k: &mut Counts) -> Quer
             }
         }
         counted[!any as usize] += 1;
-        queries.given.iter_mut().zip(given).for_each(|(column, x)| column.push(x));
-        queries.used.iter_mut().zip(used).for_each(|(column, x)| column.push(x));
+        queries.push(&given, &used);
     }
     for (what, count) in COUNTED.iter().zip(counted) {
         *k.by.entry(what.to_string()).or_default() += count;
     }
-    queries
+    (queries, nans)
 }
 
 /// The five calls with mode numbers that are none, whatever else is wrong: 1 or 2 where they apply, else 3. Nothing is
@@ -602,7 +792,8 @@ fn no_mode<T: Calls>(g: &Grid<T>, modes: impl Iterator<Item = u8>, r: &mut Rng, 
     Ok(())
 }
 
-/// Every mode number that is none, on grids that are taken and on grids that each check but 7 and 8 refuses.
+/// Every mode number that is none, on grids that are taken and on grids that each check of grids refuses. Those in the three
+/// modes too, with NaN among the queries: 1 to 6 come before 9.
 fn all_modes<T: Calls>(r: &mut Rng, k: &mut Counts) -> Result<(), String> {
     for rectilinear in [false, true] {
         let good = axis::<T>(r, rectilinear, "whole", 5);
@@ -618,73 +809,83 @@ fn all_modes<T: Calls>(r: &mut Rng, k: &mut Counts) -> Result<(), String> {
             Axis::Rectilinear(a) => Axis::Rectilinear(vec![a[0], a[2], a[1], a[3], a[4]]),
         };
         let none = Grid { counts: vec![], ..Grid::new(&[good.clone()], vec![T::one(); 5], HELD) };
-        no_mode(&none, 3..=255, r, k)?;
-        for axes in [
-            vec![good.clone()],
-            vec![good.clone(); 2],
-            vec![good.clone(); 3],
-            vec![good.clone(); 4],
-            vec![good.clone(); 5],
-            vec![long.clone()],
-            vec![good.clone(), long],
-            vec![wide.clone(), wide],
-            vec![short, good.clone()],
-            vec![good.clone(), still],
-            vec![back, good],
+        let mut grids = vec![(none, (1, 0))];
+        for (axes, expected) in [
+            (vec![good.clone()], (0, 0)),
+            (vec![good.clone(); 2], (0, 0)),
+            (vec![good.clone(); 3], (0, 0)),
+            (vec![good.clone(); 4], (0, 0)),
+            (vec![good.clone(); 5], (1, 0)),
+            (vec![long.clone()], (2, 0)),
+            (vec![good.clone(), long], (2, 0)),
+            (vec![wide.clone(), wide], (2, 0)),
+            (vec![short, good.clone()], (4, 0)),
+            (vec![good.clone(), still], (5, 1)),
+            (vec![back, good], if rectilinear { (6, 0) } else { (0, 0) }),
         ] {
             // The values of the grids that are too large are not there.
             let len = product(&axes).min(625);
-            no_mode(&Grid::new(&axes, values(r, "short", len), HELD), 3..=255, r, k)?;
+            grids.push((Grid::new(&axes, values(r, "short", len), HELD), expected));
+        }
+        for (mut g, expected) in grids {
+            no_mode(&g, 3..=255, r, k)?;
+            for mode in if expected.0 == 0 { 0..0 } else { 0..3 } {
+                g.mode = mode;
+                (0..8).try_for_each(|_| refused(&g, expected, r, k)).map_err(|e| format!("{e}\n{g:?}"))?;
+            }
         }
     }
     Ok(())
 }
 
-/// The draws and counts of cubic and straight, and those of held.
+/// The draws and counts of cubic and straight, and those of held; and the draws for queries with a NaN.
 struct Run {
     r: Rng,
     k: Counts,
     h: Rng,
     held: Counts,
+    n: Rng,
 }
 
 /// One random grid with its queries, and now and then a grid that is refused.
 fn round<T: Calls>(run: &mut Run) -> Result<(), String> {
-    let Run { r, k, h, held } = run;
+    let Run { r, k, h, held, n } = run;
     if r.one_in(8) {
         let (rectilinear, many) = (r.coin(), r.pick(&[1, 2, 3, 4]));
         let mut g = faulty::<T>(r, rectilinear, many, &mut |r| r.range(4, 7) as usize);
         if let Some(message) = read(&g, |reader| reader.err()) {
-            refused(&g, message, r, k).map_err(|e| format!("{e}\n{g:?}"))?;
+            let expected = refusal(&g, message);
+            refused(&g, expected, r, k).map_err(|e| format!("{e}\n{g:?}"))?;
             g.mode = HELD;
-            refused(&g, message, h, held).map_err(|e| format!("{e}\n{g:?}"))?;
+            refused(&g, expected, h, held).map_err(|e| format!("{e}\n{g:?}"))?;
             let mode = h.range(3, 255) as u8;
             no_mode(&g, [mode].into_iter(), h, held)?;
         }
     }
     let axes = random_axes::<T>(r);
-    let n = axes.len();
     let mut g = Grid::new(&axes, any_values(r, product(&axes)), if r.coin() { STRAIGHT } else { CUBIC });
     let size = if r.one_in(5) { r.below(12) } else { r.range(50, 1000) as usize };
     let odd = r.pick(&[0, 0, 0, 10, 100, 1000]);
-    let mut columns = vec![vec![]; n];
+    let (mut queries, mut nans) = (Queries::none(axes.len()), Queries::none(axes.len()));
     for _ in 0..size {
         let x: Vec<T> = axes.iter().map(|a| coordinate(r, a, odd)).collect();
-        if axes.iter().zip(&x).any(|(a, &x)| a.apart(x)) {
+        if apart(&axes, &x) {
             k.left_out += 1;
             continue;
         }
-        columns.iter_mut().zip(x).for_each(|(column, x)| column.push(x));
+        if any_nan(&x) { nans.push(&x, &x) } else { queries.push(&x, &x) }
     }
-    asked(&g, &Queries { given: columns.clone(), used: columns }, r, k)?;
+    asked(&g, &queries, r, k)?;
+    missing(&g, &axes, &queries, nans, n, k)?;
 
     g.mode = HELD;
     // On values of one sign many components of replaced axes are -0.
     if h.one_in(4) {
         g.values.iter_mut().for_each(|v| *v = -v.abs());
     }
-    let queries = held_queries(&axes, h, held);
+    let (queries, nans) = held_queries(&axes, h, held);
     asked(&g, &queries, h, held)?;
+    missing(&g, &axes, &queries, nans, n, held)?;
     let mode = h.range(3, 255) as u8;
     no_mode(&g, [mode].into_iter(), h, held)
 }
@@ -694,10 +895,11 @@ fn compare<T: Calls>(queries: u64, seed: u64) -> bool {
     assert_eq!(T::version(), ours::VERSION, "the archive is of another version than src/ours.rs");
     let start = Instant::now();
     let seeded = seed.wrapping_mul(0x2545f4914f6cdd1d);
-    let mut run = Run { r: Rng(seeded), k: Counts::default(), h: Rng(!seeded), held: Counts::default() };
+    let n = Rng(seeded.rotate_left(32));
+    let mut run = Run { r: Rng(seeded), k: Counts::default(), h: Rng(!seeded), held: Counts::default(), n };
     let mut grids = 0u64;
-    let mut difference = all_modes::<T>(&mut run.h, &mut run.held).err();
-    while run.k.queries < queries && difference.is_none() {
+    let mut difference = figures::<T>().and_then(|()| all_modes::<T>(&mut run.h, &mut run.held)).err();
+    while run.k.queries.min(run.held.queries) < queries && difference.is_none() {
         difference = round::<T>(&mut run).err();
         grids += 1;
     }

@@ -13,6 +13,8 @@
 //!   answers    for each query: 1, then n words origin * 8 + class, the value, n words the gradient (bits, any NaN as
 //!              7ff8000000000000); or, where it cannot be placed, 0 and the lowest axis on which get_loc refuses
 //! With f32 the same words, the bits of an f32 in the low half of its word, any NaN answer as 7fc00000.
+//! No query has a NaN coordinate: ours refuses those with 9, and the Rust is no reference for them. Where one is drawn, its
+//! query is left out, or a number stands in its place (`put_numbers`); both are counted.
 #[path = "../cases.rs"]
 mod cases;
 #[path = "../original.rs"]
@@ -50,7 +52,12 @@ struct Corpus {
     words: Vec<u64>,
     groups: usize,
     queries: usize,
-    left_out: usize,
+    /// Queries left out: by a quotient of exactly -2^63; and by a NaN coordinate, of each kind.
+    apart: usize,
+    missing: [usize; 2],
+    /// Queries with a number in the place of a NaN that was drawn, and the draws of such numbers, which are their own.
+    in_place: usize,
+    numbers: Rng,
     tally: BTreeMap<String, usize>,
     /// By kind, mode, axis count, axis and class.
     classes: BTreeMap<(usize, usize, usize, usize, usize), usize>,
@@ -83,12 +90,30 @@ impl Corpus {
         self.words.extend(raw(&g.values));
     }
 
+    /// Puts numbers in the place of NaN coordinates on regular axes that start at no finite number. There nearly every draw
+    /// is a NaN, and what such an axis is for is a quotient that is NaN or infinite.
+    fn put_numbers<T: Width>(&mut self, axes: &[Axis<T>], x: &mut [T]) {
+        let mut any = false;
+        for (a, x) in axes.iter().zip(x) {
+            if x.is_nan() && matches!(a, Axis::Regular { start, .. } if !start.is_finite()) {
+                let [zero, one] = [T::zero(), T::one()];
+                *x = self.numbers.pick(&[zero, -zero, one, -one, T::MAX, -T::MAX, T::INFINITY, T::NEG_INFINITY]);
+                any = true;
+            }
+        }
+        self.in_place += any as usize;
+    }
+
     /// A grid that `new` takes, and queries to it.
     fn group<T: Width>(&mut self, topic: &str, axes: &[Axis<T>], mode: u8, values: Vec<T>, mut queries: Vec<Vec<T>>) {
+        let g = Grid::new(axes, values, mode);
+        queries.iter_mut().for_each(|x| self.put_numbers(axes, x));
         let before = queries.len();
         queries.retain(|x| !axes.iter().zip(x).any(|(a, &x)| a.apart(x)));
-        self.left_out += before - queries.len();
-        let g = Grid::new(axes, values, mode);
+        let between = queries.len();
+        queries.retain(|x| !x.iter().any(|x| x.is_nan()));
+        self.apart += before - between;
+        self.missing[g.rectilinear as usize] += between - queries.len();
         let n = axes.len();
         let c = queries.len();
         assert!(c <= 64);
@@ -152,9 +177,9 @@ impl Corpus {
         self.queries += 1;
         self.count(format!("queries, {kind}, axis count {n}"));
         self.count(format!("topic {topic}: queries"));
+        assert!(!x.iter().any(|x| x.is_nan()));
         for (what, is) in [
-            ("a NaN", (|x| x.is_nan()) as fn(&T) -> bool),
-            ("an infinity", |x| x.is_infinite()),
+            ("an infinity", (|x| x.is_infinite()) as fn(&T) -> bool),
             ("a subnormal number", |x| x.classify() == FpCategory::Subnormal),
             ("-0", |x| x.bits() == T::of(-0.0).bits()),
         ] {
@@ -168,6 +193,10 @@ impl Corpus {
         for (a, &x) in axes.iter().zip(x) {
             if let Axis::Regular { start, step, .. } = a {
                 let q = ((x - *start) / *step).abs();
+                if q.is_nan() {
+                    let i = [start.is_nan(), (x - *start).is_nan(), true].iter().position(|&is| is).unwrap();
+                    self.count(NAN_QUOTIENTS[i].into());
+                }
                 for e in marks::<T>() {
                     let mark = T::of(pow2(e));
                     if q >= mark.down() && q <= mark.up() {
@@ -233,6 +262,13 @@ impl Corpus {
         true
     }
 }
+
+/// What makes the quotient of a number a NaN, the first that applies.
+const NAN_QUOTIENTS: [&str; 3] = [
+    "coordinates with a NaN quotient, the start being NaN",
+    "coordinates with a NaN quotient, by an infinity less an infinity",
+    "coordinates with a NaN quotient, by an infinity over an infinity",
+];
 
 fn marks<T: Width>() -> [i64; 3] {
     [T::DIGITS as i64 - 1, T::DIGITS as i64, 63]
@@ -323,7 +359,7 @@ fn make<T: Width>(r: &mut Rng, o: &mut Corpus) {
         let queries = (0..10).map(|_| axes.iter().map(|a| near_node(r, a)).collect()).collect();
         o.group("node", &axes, r.coin() as u8, v, queries);
     }
-    // Zeros, infinities, NaN, subnormals and extremes as queries.
+    // Zeros, infinities, subnormals and extremes as queries. NaN are drawn too, and left out.
     for i in 0..80 {
         let rectilinear = i % 2 == 1;
         let many = how_many_axes(r);
@@ -454,7 +490,7 @@ fn make<T: Width>(r: &mut Rng, o: &mut Corpus) {
             for d in 0..many {
                 if d == at % many || r.one_in(4) {
                     let far = either::<T>(1e300, 1e35);
-                    queries[at][d] = r.pick(&[T::NAN, T::INFINITY, T::NEG_INFINITY, far, -far]);
+                    queries[at][d] = r.pick(&[T::INFINITY, T::NEG_INFINITY, far, -far]);
                 }
             }
         }
@@ -502,11 +538,11 @@ fn make<T: Width>(r: &mut Rng, o: &mut Corpus) {
         queries.extend((0..30).map(|_| vec![near_node(r, &axes[0])]));
         o.group("long", &axes, rectilinear as u8, v, queries);
     }
-    // All NaN, the values and the queries, of either sign: refused on regular axes, answered on rectilinear ones.
+    // All values NaN: answered on both kinds, inside and past an end.
     for mode in [CUBIC, STRAIGHT] {
         for many in 1..=2 {
             let v = values(r, "nan", 4usize.pow(many as u32));
-            let queries = vec![vec![T::NAN; many], vec![-T::NAN; many]];
+            let queries = vec![vec![T::of(1.5); many], vec![T::of(-0.5); many]];
             o.group("all NaN", &vec![cubes[0].clone(); many], mode, v.clone(), queries.clone());
             o.group("all NaN", &vec![Axis::Rectilinear(all(good)); many], mode, v, queries);
         }
@@ -535,7 +571,10 @@ fn main() {
         words: vec![0],
         groups: 0,
         queries: 0,
-        left_out: 0,
+        apart: 0,
+        missing: [0; 2],
+        in_place: 0,
+        numbers: Rng(!seed.wrapping_mul(0x2545f4914f6cdd1d)),
         tally: BTreeMap::new(),
         classes: BTreeMap::new(),
     };
@@ -546,7 +585,11 @@ fn main() {
     println!("{:7} words, at most {MOST_WORDS}", o.words.len());
     println!("{:7} groups", o.groups);
     println!("{:7} queries", o.queries);
-    println!("{:7} queries left out, their quotient being exactly -2^63", o.left_out);
+    println!("{:7} queries left out, their quotient being exactly -2^63", o.apart);
+    for (kind, missing) in KINDS.iter().zip(o.missing) {
+        println!("{missing:7} queries left out, a coordinate being NaN, {kind}");
+    }
+    println!("{:7} queries with a number in the place of a NaN, on an axis that starts at no finite number", o.in_place);
     for (what, count) in &o.tally {
         println!("{count:7} {what}");
     }
@@ -568,6 +611,7 @@ fn main() {
     for e in if narrow { marks::<f32>() } else { marks::<f64>() } {
         assert!(o.tally.contains_key(&beside(e)), "no quotient beside 2^{e}");
     }
+    assert!(NAN_QUOTIENTS.iter().all(|&what| o.tally.contains_key(what)), "a NaN quotient is missing");
     assert!(o.groups >= 600 && o.queries >= 5000 && o.words.len() <= MOST_WORDS);
     let bytes: Vec<u8> = o.words.iter().flat_map(|w| w.to_le_bytes()).collect();
     std::fs::write(file, bytes).expect("the file can be written");

@@ -6,7 +6,7 @@ use lib.Ieee.{binary64, ofBits, div}
 use lib.Ieee.Bits.{nanBits-is, nanBits-above}
 use borrow.Author.Tests.{lt-ltb, le-ltb}
 use borrow.Author.Needs.{needs}
-use Rattle.harness_words.proofs.Nan.{nan-is}
+use Rattle.ieee.proofs.Nan.{nan-is}
 use Rattle.harness_words.proofs.float_of.Statement.{statement}
 use Rattle.harness_words.proofs.float_of.Tie as tie
 

@@ -1,17 +1,18 @@
 -- A float that differs from itself is the NaN, which has one pattern here; any other has its own.
 use mathlib.Core.Path.{sym, ap, subst}
+use mathlib.Core.Bool.{Bool, not}
 use native.Mathlib.Omega.{arith}
 use lib.Dec.{T}
 use lib.Ieee.{binary32, toBits}
 use lib.Ieee.Bits.{toBits-lt}
 use lib.Ieee.Compare.{differs-from-itself}
 use borrow.Author.Needs.{needs}
-use Rattle.harness_words.proofs.Nan.{same-no-nan}
+use Rattle.ieee.proofs.Nan.{same-number}
 use Rattle.harness_words_f32.proofs.bits_of.Statement.{statement}
 use Rattle.harness_words_f32.proofs.bits_of.Tie as tie
 
 float-to-bits-result : tie.Need-float-to-bits-result
-float-to-bits-result c = same-no-nan (c .before .args .x) (c .if1 .left)
+float-to-bits-result c = subst (λ (b : Bool). T (not b)) (sym (same-number (c .before .args .x) (c .if1 .left))) tt
 
 -- a pattern of f32 is below 2^32
 cast-result : tie.Need-cast-result

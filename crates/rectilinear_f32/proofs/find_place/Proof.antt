@@ -16,7 +16,7 @@ locate-requires c κs = record { values = _; checked = sym (c .before .before .n
 returns : tie.Need-returns
 returns c =
     let told = sym (c .before .before .before .new .ensures .0) ∙ c .before .enum-told .given .1 in
-    both-say (rw (told, c .before .enum-told .given .1) refl, c .nowhere .ensures ∙ rw told refl)
+    both-say (c .unplaced .ensures .0 ∙ rw (told, c .before .enum-told .given .1) refl, c .unplaced .ensures .1 ∙ rw told refl)
 
 returns-2 : tie.Need-returns-2
 returns-2 c =

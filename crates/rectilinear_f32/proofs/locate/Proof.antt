@@ -1,6 +1,6 @@
 -- `locate`: each turn keeps one place more.
 use Prim.Native.Nat.{_+_, _≤_, _<_, _-_}
-use mathlib.Core.Path.{_≡_, _∙_, sym, refl, ap}
+use mathlib.Core.Path.{_≡_, _∙_, sym, refl, ap, subst}
 use mathlib.Core.Bool.{Bool}
 use mathlib.Core.List.{List}
 use native.Mathlib.Omega.{arith}
@@ -8,11 +8,15 @@ use lib.ListN.{length, getD, take, length-set}
 use lib.Ieee.{Float, nan, binary32}
 use denote.Ref.{now}
 use Rattle.multicubic.specs.declared.Loc.{Loc}
+use Rattle.multicubic.specs.declared.PlaceAnswer.{PlaceAnswer}
+use Rattle.multicubic.specs.Answers.{placeOutcome}
 use Rattle.multicubic.specs.Grid.{sum}
+use Rattle.multicubic.specs.Internal.{fourNowhere}
+use Rattle.multicubic.proofs.Numbers.{Unplaced}
 use Rattle.grid.specs.Query.{at, GridAxis}
-use Rattle.grid.specs.Internal.{noAxis as noGridAxis}
+use Rattle.grid.specs.Internal.{Located, noAxis as noGridAxis}
 use Rattle.grid.proofs.Edges.{own-loc}
-use Rattle.grid.proofs.Locating.{Placing, placing-none, placing-turn, placing-all, so-far-unplaceable}
+use Rattle.grid.proofs.Locating.{Placing, placing-none, placing-turn, placing-all, located-refused}
 use Rattle.rectilinear_query.specs.Grid.{gridAxis, axisIn, axesIn}
 use Rattle.rectilinear_query.specs.Internal.{Taken}
 use Rattle.rectilinear_query.proofs.Locating.{fit, sum-next, ends-within, part, long-at, sound-at, axis-is}
@@ -36,11 +40,15 @@ abbrev μ-loop : tie.MeasureT-loop
 
 -- the axis in hand is the grid's
 module _ (c : tie.At-loop Inv-loop μ-loop) where
+  -- the grid's axes
+  abbrev gs : List GridAxis
+  gs = axesIn binary32 (c .before .before .before .args .mode) (c .before .before .before .args .axis-count) (c .before .before .before .args .t2) (now (c .before .before .before .args .axes))
+
   abbrev given : Float
   given = getD (c .before .before .before .args .t5) (c .loop .i) nan
 
   module _ (h : c .loop .i < c .before .before .before .args .axis-count) where
-    inside : c .loop .i < length (axesIn binary32 (c .before .before .before .args .mode) (c .before .before .before .args .axis-count) (c .before .before .before .args .t2) (now (c .before .before .before .args .axes)))
+    inside : c .loop .i < length gs
     inside = rw (fit binary32 (c .before .before .before .args .mode) (c .loop .inv .2) (c .loop .inv .5) .counted) h
 
     ends : c .loop .start + getD (c .before .before .before .args .t2) (c .loop .i) 0 ≤ length (now (c .before .before .before .args .axes))
@@ -55,7 +63,8 @@ module _ (c : tie.At-loop Inv-loop μ-loop) where
     abbrev line : Bool → GridAxis
     line straight = gridAxis binary32 straight entries
 
-    loc-is : (l : Loc) → l ≡ axisIn binary32 (c .before .before .before .args .mode) entries .loc given → l ≡ getD (axesIn binary32 (c .before .before .before .args .mode) (c .before .before .before .args .axis-count) (c .before .before .before .args .t2) (now (c .before .before .before .args .axes))) (c .loop .i) noGridAxis .loc (at (c .before .before .before .args .t5) (c .loop .i))
+    loc-is : (l : Loc) → l ≡ axisIn binary32 (c .before .before .before .args .mode) entries .loc given
+        → l ≡ getD gs (c .loop .i) noGridAxis .loc (at (c .before .before .before .args .t5) (c .loop .i))
     loc-is l e = e ∙ ap (λ (g : GridAxis). g .loc given) (axis-is binary32 (c .before .before .before .args .mode) (c .loop .inv .2) (c .loop .inv .5) (c .loop .i) h (c .loop .start) (c .loop .inv .6))
 
 loop-holds : tie.Need-loop-holds Inv-loop μ-loop
@@ -98,23 +107,50 @@ get-loc-requires c κs =
     let h = c .before .before .before .before .before .loop-test .taken in
     (long l h, sound-at binary32 (l .before .before .before .args .mode) (l .loop .inv .2) (l .loop .inv .5) (l .loop .i) h (l .loop .start) (l .loop .inv .6))
 
+-- the place on the axis in hand has been asked for: it is what the grid's axis has, and where it is none the query has no places
+module _ (c : tie.After-get-loc Inv-loop μ-loop) where
+  abbrev head : tie.At-loop Inv-loop μ-loop
+  head = c .before .before .before .before .before .before .before
+
+  abbrev left : head .loop .i < head .before .before .before .args .axis-count
+  left = c .before .before .before .before .before .before .loop-test .taken
+
+  located : c .get-loc .result ≡ getD (gs head) (head .loop .i) noGridAxis .loc (at (head .before .before .before .args .t5) (head .loop .i))
+  located =
+      loc-is head left _ (own-loc (head .before .before .before .args .mode) (line head left) (given head) _ _
+      (c .before .before .before .before .replaced-at .ensures) (c .before .before .hold .ensures) _ (c .get-loc .ensures .0))
+
+  refused : Unplaced (c .get-loc .result) → (r : PlaceAnswer) → r .outcome ≡ placeOutcome 0 (head .loop .i) (c .get-loc .result) → r .places ≡ fourNowhere
+      → Located 0 (gs head) (at (head .before .before .before .args .t5)) r
+  refused u r o p = located-refused (gs head) _ (head .loop .i) (head .loop .inv .7 .so-far) (inside head left) _ located u (r .outcome) (r .places) o p
+
 returns : tie.Need-returns Inv-loop μ-loop
 returns c =
-    let l = c .before .before .before .before .before .before .before .before .before .before .before in
-    let h = c .before .before .before .before .before .before .before .before .before .before .loop-test .taken in
-    let loc = own-loc (l .before .before .before .args .mode) (line l h) (given l) _ _ (c .before .before .before .before .before .before .before .before .replaced-at .ensures) (c .before .before .before .before .before .before .hold .ensures) _ (sym (c .before .before .enum-told .given .1) ∙ c .before .before .before .before .get-loc .ensures .0) in
-    let e = so-far-unplaceable _ _ (l .loop .i) (l .loop .inv .7 .so-far) (inside l h) (loc-is l h _ loc) in
-    (c .before .refused-query .ensures ∙ rw e refl, c .nowhere2 .ensures ∙ rw e refl)
-
-loop-again : tie.Need-loop-again Inv-loop μ-loop
-loop-again c =
-    let l = c .before .before .before .before .before .before .before .before .before .before in
-    let h = c .before .before .before .before .before .before .before .before .before .loop-test .taken in
-    let loc = own-loc (l .before .before .before .args .mode) (line l h) (given l) _ _ (c .before .before .before .before .before .before .before .replaced-at .ensures) (c .before .before .before .before .before .hold .ensures) _ (sym (c .before .loc .given .1) ∙ c .before .before .before .get-loc .ensures .0) in
-    (omega arith, l .loop .inv .1, l .loop .inv .2, l .loop .inv .3, rw length-set (l .loop .inv .4), l .loop .inv .5, omega (arith, l .loop .inv .6, sum-next (l .before .before .before .args .t2) (l .loop .i)), placing-turn _ _ _ (l .loop .i) (l .loop .inv .7) (inside l h) (omega arith) _ (loc-is l h _ loc))
+    refused (c .before .before .before .before) (subst Unplaced (sym (c .before .before .enum-told .given .1)) tt) _
+    (c .unplaced .ensures .0 ∙ c .before .place-outcome .ensures) (c .unplaced .ensures .1)
 
 returns-2 : tie.Need-returns-2 Inv-loop μ-loop
 returns-2 c =
+    refused (c .before .before .before .before) (subst Unplaced (sym (c .before .before .enum-told2 .given .1)) tt) _
+    (c .unplaced2 .ensures .0 ∙ c .before .place-outcome2 .ensures) (c .unplaced2 .ensures .1)
+
+loop-again : tie.Need-loop-again Inv-loop μ-loop
+loop-again c =
+    let t = c .before .before .before in
+    let l = head t in
+    let next = placing-turn _ _ _ (l .loop .i) (l .loop .inv .7) (inside l (left t)) (omega arith) _ (sym (c .before .loc .given .1) ∙ located t) in (
+      omega arith,
+      l .loop .inv .1,
+      l .loop .inv .2,
+      l .loop .inv .3,
+      rw length-set (l .loop .inv .4),
+      l .loop .inv .5,
+      omega (arith, l .loop .inv .6, sum-next (l .before .before .before .args .t2) (l .loop .i)),
+      next,
+    )
+
+returns-3 : tie.Need-returns-3 Inv-loop μ-loop
+returns-3 c =
     let l = c .before in
     let e : l .loop .i ≡ l .before .before .before .args .axis-count = omega arith in
     placing-all _ _ _ (l .loop .i) (l .loop .inv .7) (e ∙ sym (fit binary32 (l .before .before .before .args .mode) (l .loop .inv .2) (l .loop .inv .5) .counted)) 0
@@ -152,9 +188,13 @@ locate-spec =
     (λ c κs. search needs)
     (λ c κs. search needs)
     returns
+    (λ c. search needs)
+    (λ c κs. search needs)
+    (λ c κs. search needs)
+    returns-2
     (λ c. omega arith)
     (λ c. omega arith)
     (λ c. omega arith)
     (λ c. omega arith)
     loop-again
-    returns-2)
+    returns-3)

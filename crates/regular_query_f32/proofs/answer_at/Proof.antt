@@ -1,5 +1,5 @@
 -- `answer_at`: each turn puts one axis more into the pass, and the reduction over all of them gives what is asked.
-use mathlib.Core.Path.{_≡_, refl, sym, ap, _∙_}
+use mathlib.Core.Path.{_≡_, refl, sym, ap, _∙_, subst}
 use mathlib.Core.Bool.{Bool}
 use mathlib.Core.List.{List}
 use Prim.Native.Nat.{ℕ, _+_, _-_, _*_, _≤_, _<_}
@@ -10,14 +10,15 @@ use denote.Ref.{now}
 use Rattle.ieee.specs.Numbers.{zero as nought}
 use Rattle.multicubic.specs.declared.Loc.the-variants.{At}
 use Rattle.multicubic.specs.declared.Outcome.{Outcome}
-use Rattle.multicubic.specs.Answers.{answered}
+use Rattle.multicubic.specs.Answers.{answered, placeOutcome}
 use Rattle.multicubic.specs.Place.{straightOf, Placed}
+use Rattle.multicubic.proofs.Numbers.{Unplaced}
 use Rattle.reduction.specs.Value.{stridesOf, offset, shifted}
 use Rattle.reduction.specs.Internal.{indexAt}
 use Rattle.reduction.proofs.Reduction.{read-at}
-use Rattle.grid.specs.Query.{GridAxis, countsOf, places, originsOf}
+use Rattle.grid.specs.Query.{GridAxis, countsOf, Found, places, originsOf}
 use Rattle.grid.specs.Batch.{queryAt, foundAt}
-use Rattle.grid.specs.Internal.{rowAt, noAxis as noGridAxis}
+use Rattle.grid.specs.Internal.{rowAt, answerTo, noAxis as noGridAxis}
 use Rattle.grid.proofs.Edges.{own-loc, own-row}
 use Rattle.grid.proofs.Fit.{Fit}
 use Rattle.grid.proofs.Locating.{so-far-all}
@@ -57,7 +58,14 @@ module _ (c : tie.At-loop Inv-loop μ-loop) where
   abbrev given : Float
   given = getD (now (c .before .before .before .before .args .queries)) (c .loop .at) nan
 
-  same : c .loop .axis < c .before .before .before .before .args .axis-count → own ≡ getD (axesIn binary32 (c .before .before .before .before .args .mode) (c .before .before .before .before .args .axis-count) (c .before .before .before .before .args .t2)) (c .loop .axis) noGridAxis
+  -- the grid's axes, and what they give for the query
+  abbrev gs : List GridAxis
+  gs = axesIn binary32 (c .before .before .before .before .args .mode) (c .before .before .before .before .args .axis-count) (c .before .before .before .before .args .t2)
+
+  abbrev asked : Found
+  asked = foundAt gs (c .before .before .before .before .args .count) (now (c .before .before .before .before .args .queries)) (c .before .before .before .before .args .i)
+
+  same : c .loop .axis < c .before .before .before .before .args .axis-count → own ≡ getD gs (c .loop .axis) noGridAxis
   same h = axis-is binary32 (c .before .before .before .before .args .mode) (c .loop .inv .2) (taken-of (c .loop .inv .3)) (c .loop .axis) h
 
 loop-holds : tie.Need-loop-holds Inv-loop μ-loop
@@ -90,86 +98,117 @@ get-loc-requires c κs =
     let l = c .before .before .before .before .before .before .before in
     long-at binary32 (l .before .before .before .before .args .mode) (l .loop .inv .2) (taken-of (l .loop .inv .3)) (l .loop .axis) (c .before .before .before .before .before .before .loop-test .taken)
 
+-- the place on the axis in hand has been asked for: it is what the grid's axis has, and where it is none, that is the query's answer
+module _ (c : tie.After-get-loc Inv-loop μ-loop) where
+  abbrev head : tie.At-loop Inv-loop μ-loop
+  head = c .before .before .before .before .before .before .before .before
+
+  abbrev left : head .loop .axis < head .before .before .before .before .args .axis-count
+  left = c .before .before .before .before .before .before .before .loop-test .taken
+
+  located : c .get-loc .result ≡ own head .loc (given head)
+  located =
+      own-loc (head .before .before .before .before .args .mode) (line head) (given head) _ _
+      (c .before .before .before .before .replaced-at .ensures) (c .before .before .hold .ensures) _ (c .get-loc .ensures .0)
+
+  refused : Unplaced (c .get-loc .result) → (o : Outcome) → o ≡ placeOutcome (head .before .before .before .before .args .i) (head .loop .axis) (c .get-loc .result)
+      → answered o nought ≡ answerTo binary32 (gs head) (now (head .before .before .before .before .args .vals)) (head .before .before .before .before .args .quantity)
+      (head .before .before .before .before .args .i) (asked head)
+  refused u o e =
+      ap (λ (p : Outcome). answered p nought) e
+      ∙ turn-refused (fits head) (head .loop .inv .5) left (own head) (same head left) binary32 (now (head .before .before .before .before .args .vals)) _ located u
+
 returns : tie.Need-returns Inv-loop μ-loop
 unfolding ofBits
 returns c =
-    let l = c .before .before .before .before .before .before .before .before .before .before .before .before in
-    let h = c .before .before .before .before .before .before .before .before .before .before .before .loop-test .taken in
-    let loc = own-loc (l .before .before .before .before .args .mode) (line l) (given l) _ _ (c .before .before .before .before .before .before .before .before .replaced-at .ensures) (c .before .before .before .before .before .before .hold .ensures) _ (sym (c .before .before .enum-told .given .1) ∙ c .before .before .before .before .get-loc .ensures .0) in
-    c .answered .ensures ∙ ap (λ (o : Outcome). answered o nought) (c .before .refused-query .ensures) ∙ turn-refused (fits l) (l .loop .inv .5) h (own l) (same l h) binary32 (now (l .before .before .before .before .args .vals)) loc
+    c .answered .ensures
+    ∙ refused (c .before .before .before .before) (subst Unplaced (sym (c .before .before .enum-told .given .1)) tt) _ (c .before .place-outcome .ensures)
+
+returns-2 : tie.Need-returns-2 Inv-loop μ-loop
+unfolding ofBits
+returns-2 c =
+    c .answered2 .ensures
+    ∙ refused (c .before .before .before .before) (subst Unplaced (sym (c .before .before .enum-told2 .given .1)) tt) _ (c .before .place-outcome2 .ensures)
 
 row-at-requires : tie.Need-row-at-requires Inv-loop μ-loop
 row-at-requires c κs =
-    let l = c .before .before .before .before .before .before .before .before .before .before .before .before .before in
+    let l = head (c .before .before .before .before .before) in
     let loc = sym (c .before .before .before .loc .given .1) ∙ c .before .before .before .before .before .get-loc .ensures .0 in
-    origin-below binary32 (l .before .before .before .before .args .mode) (l .loop .inv .2) (taken-of (l .loop .inv .3)) (l .loop .axis) (c .before .before .before .before .before .before .before .before .before .before .before .before .loop-test .taken) (straightOf (l .before .before .before .before .args .mode)) _ _ loc
+    origin-below binary32 (l .before .before .before .before .args .mode) (l .loop .inv .2) (taken-of (l .loop .inv .3)) (l .loop .axis)
+    (left (c .before .before .before .before .before)) (straightOf (l .before .before .before .before .args .mode)) _ _ loc
 
--- the axis in hand gives the place that was found
+-- the axis in hand has placed the query
 module _ (c : tie.After-row-at Inv-loop μ-loop) where
-  abbrev head : tie.At-loop Inv-loop μ-loop
-  head = c .before .before .before .before .before .before .before .before .before .before .before .before .before .before
+  abbrev turned : tie.After-get-loc Inv-loop μ-loop
+  turned = c .before .before .before .before .before .before
 
-  abbrev left : head .loop .axis < head .before .before .before .before .args .axis-count
-  left = c .before .before .before .before .before .before .before .before .before .before .before .before .before .loop-test .taken
-
-  found : At (c .before .before .before .before .loc .given .0 .0) ≡ own head .loc (given head)
-  found = own-loc (head .before .before .before .before .args .mode) (line head) (given head) _ _ (c .before .before .before .before .before .before .before .before .before .before .replaced-at .ensures) (c .before .before .before .before .before .before .before .before .hold .ensures) _ (sym (c .before .before .before .before .loc .given .1) ∙ c .before .before .before .before .before .before .get-loc .ensures .0)
+  found : At (c .before .before .before .before .loc .given .0 .0) ≡ own (head turned) .loc (given (head turned))
+  found = sym (c .before .before .before .before .loc .given .1) ∙ located turned
 
   -- the index of the block's first value stays small
-  small : head .loop .base + c .before .before .before .before .loc .given .0 .0 .origin * getD (head .before .before .before .before .args .t5) (head .loop .axis) 0 < 1048576
-  small = turn-small (fits head) (head .loop .inv .5) left (own head) (same head left) _ found
+  small : head turned .loop .base + c .before .before .before .before .loc .given .0 .0 .origin * getD (head turned .before .before .before .before .args .t5) (head turned .loop .axis) 0 < 1048576
+  small = turn-small (fits (head turned)) (head turned .loop .inv .5) (left turned) (own (head turned)) (same (head turned) (left turned)) _ found
 
 add-at : tie.Need-add-at Inv-loop μ-loop
-add-at c = omega (arith, turn-room (fits (head c)) (head c .loop .inv .5) (left c), head c .before .before .before .before .good)
+add-at c =
+    let l = head (turned c) in
+    omega (arith, turn-room (fits l) (l .loop .inv .5) (left (turned c)), l .before .before .before .before .good)
 
 loop-again : tie.Need-loop-again Inv-loop μ-loop
 loop-again c =
-    let l = head c in
-    let row = own-row (l .before .before .before .before .args .mode) (line l) (given l) _ _ (c .before .before .before .before .before .before .before .before .before .before .replaced-at .ensures) (c .before .before .before .before .before .before .before .before .hold .ensures) _ (l .loop .inv .4) _ (c .before .before .before .before .loc .given .0 .0) (c .before .before .is-component .result) (c .row-at .ensures) in
-    let asked = ap (rowAt (own l) (given l) (c .before .before .before .before .loc .given .0 .0)) (c .before .before .is-component .ensures) in
-    (omega (arith, left c), l .loop .inv .1, l .loop .inv .2, l .loop .inv .3, l .loop .inv .4, turn-next (fits l) (l .loop .inv .5) (left c) (own l) (same l (left c)) _ (found c) _ (row ∙ asked))
+    let t = turned c in
+    let l = head t in
+    let row = own-row (l .before .before .before .before .args .mode) (line l) (given l) _ _
+    (t .before .before .before .before .replaced-at .ensures) (t .before .before .hold .ensures) _ (l .loop .inv .4) _
+    (c .before .before .before .before .loc .given .0 .0) (c .before .before .is-component .result) (c .row-at .ensures) in
+    let put = ap (rowAt (own l) (given l) (c .before .before .before .before .loc .given .0 .0)) (c .before .before .is-component .ensures) in
+    let next = turn-next (fits l) (l .loop .inv .5) (left t) (own l) (same l (left t)) _ (found c) _ (row ∙ put) in
+    (omega (arith, left t), l .loop .inv .1, l .loop .inv .2, l .loop .inv .3, l .loop .inv .4, next)
 
 -- clause 5.5: no axis is left, and ps are the query's places. The value that the reduction reads for js stands at the sum of (origin + j) × stride
 module _ (c : tie.At-loop Inv-loop μ-loop) (h : c .before .before .before .before .args .axis-count ≤ c .loop .axis) where
-  abbrev gs : List GridAxis
-  gs = axesIn binary32 (c .before .before .before .before .args .mode) (c .before .before .before .before .args .axis-count) (c .before .before .before .before .args .t2)
-
-  read-here : (ps : List Placed) → foundAt gs (c .before .before .before .before .args .count) (now (c .before .before .before .before .args .queries)) (c .before .before .before .before .args .i) ≡ places ps → (js : List ℕ) → length js ≡ c .before .before .before .before .args .axis-count → indexAt (c .loop .base) (c .before .before .before .before .args .t5) js ≡ offset (shifted (originsOf ps) js) (stridesOf (countsOf gs))
+  read-here : (ps : List Placed) → asked c ≡ places ps → (js : List ℕ) → length js ≡ c .before .before .before .before .args .axis-count
+      → indexAt (c .loop .base) (c .before .before .before .before .args .t5) js ≡ offset (shifted (originsOf ps) js) (stridesOf (countsOf (gs c)))
   read-here ps found js n =
+      let a = c .before .before .before .before .args in
       let turn = c .loop .inv .5 in
       let few = c .loop .inv .1 in
-      let done : c .loop .axis ≡ c .before .before .before .before .args .axis-count = omega (arith, c .loop .inv .0) in
-      let all = so-far-all gs (queryAt (c .before .before .before .before .args .count) (now (c .before .before .before .before .args .queries)) (c .before .before .before .before .args .i)) (c .loop .axis) (turn .pass .so-far) (done ∙ sym (fits c .counted)) in
+      let done : c .loop .axis ≡ a .axis-count = omega (arith, c .loop .inv .0) in
+      let all = so-far-all (gs c) (queryAt (a .count) (now (a .queries)) (a .i)) (c .loop .axis) (turn .pass .so-far) (done ∙ sym (fits c .counted)) in
       let same : turn .pass .so-far .ps ≡ ps = cc in
       let counted = length-map ps (λ (p : Placed). p .place .origin) ∙ ap length (sym same) ∙ turn .pass .so-far .many ∙ done in
-      let base = turn .pass .base-is ∙ ap (λ (l : List Placed). offset (originsOf l) (c .before .before .before .before .args .t5)) same in
-      read-at (c .before .before .before .before .args .axis-count) (c .loop .base) (originsOf ps) js (c .before .before .before .before .args .t5) counted n (omega (arith, turn .four)) base ∙ ap (offset (shifted (originsOf ps) js)) (turn .spaced)
+      let base = turn .pass .base-is ∙ ap (λ (l : List Placed). offset (originsOf l) (a .t5)) same in
+      read-at (a .axis-count) (c .loop .base) (originsOf ps) js (a .t5) counted n (omega (arith, turn .four)) base ∙ ap (offset (shifted (originsOf ps) js)) (turn .spaced)
 
 reduce3-requires : tie.Need-reduce3-requires Inv-loop μ-loop
 reduce3-requires c κs = turn-reach (fits (c .before .before)) (c .before .before .loop .inv .5) (c .before .loop-test .left) .2 (c .if1 .taken)
 
-returns-2 : tie.Need-returns-2 Inv-loop μ-loop
-returns-2 c = turn-value (fits (c .before .before .before)) (c .before .before .before .loop .inv .5) (c .before .before .loop-test .left) binary32 _ 3 (c .before .if1 .taken) _ (c .reduce3 .ensures)
+returns-3 : tie.Need-returns-3 Inv-loop μ-loop
+returns-3 c = turn-value (fits (c .before .before .before)) (c .before .before .before .loop .inv .5) (c .before .before .loop-test .left) binary32 _ 3 (c .before .if1 .taken) _ (c .reduce3 .ensures)
 
 reduce1-requires : tie.Need-reduce1-requires Inv-loop μ-loop
 reduce1-requires c κs = turn-reach (fits (c .before .before .before)) (c .before .before .before .loop .inv .5) (c .before .before .loop-test .left) .0 (c .if2 .taken)
 
-returns-3 : tie.Need-returns-3 Inv-loop μ-loop
-returns-3 c = turn-value (fits (c .before .before .before .before)) (c .before .before .before .before .loop .inv .5) (c .before .before .before .loop-test .left) binary32 _ 1 (c .before .if2 .taken) _ (c .reduce1 .ensures)
+returns-4 : tie.Need-returns-4 Inv-loop μ-loop
+returns-4 c =
+    turn-value (fits (c .before .before .before .before)) (c .before .before .before .before .loop .inv .5) (c .before .before .before .loop-test .left) binary32 _ 1 (c .before .if2 .taken) _
+    (c .reduce1 .ensures)
 
 reduce2-requires : tie.Need-reduce2-requires Inv-loop μ-loop
 reduce2-requires c κs = turn-reach (fits (c .before .before .before .before)) (c .before .before .before .before .loop .inv .5) (c .before .before .before .loop-test .left) .1 (c .if3 .taken)
 
-returns-4 : tie.Need-returns-4 Inv-loop μ-loop
-returns-4 c = turn-value (fits (c .before .before .before .before .before)) (c .before .before .before .before .before .loop .inv .5) (c .before .before .before .before .loop-test .left) binary32 _ 2 (c .before .if3 .taken) _ (c .reduce2 .ensures)
+returns-5 : tie.Need-returns-5 Inv-loop μ-loop
+returns-5 c =
+    turn-value (fits (c .before .before .before .before .before)) (c .before .before .before .before .before .loop .inv .5)
+    (c .before .before .before .before .loop-test .left) binary32 _ 2 (c .before .if3 .taken) _ (c .reduce2 .ensures)
 
 reduce4-requires : tie.Need-reduce4-requires Inv-loop μ-loop
 reduce4-requires c κs =
     let n : c .before .before .before .before .before .before .before .before .args .axis-count ≡ 4 = omega (arith, fits (c .before .before .before .before) .some) in
     turn-reach (fits (c .before .before .before .before)) (c .before .before .before .before .loop .inv .5) (c .before .before .before .loop-test .left) .3 n
 
-returns-5 : tie.Need-returns-5 Inv-loop μ-loop
-returns-5 c =
+returns-6 : tie.Need-returns-6 Inv-loop μ-loop
+returns-6 c =
     let n : c .before .before .before .before .before .before .before .before .before .args .axis-count ≡ 4 = omega (arith, fits (c .before .before .before .before .before) .some) in
     turn-value (fits (c .before .before .before .before .before)) (c .before .before .before .before .before .loop .inv .5) (c .before .before .before .before .loop-test .left) binary32 _ 4 n _ (c .reduce4 .ensures)
 
@@ -197,6 +236,10 @@ answer-at-spec =
     (λ c κs. search needs)
     (λ c κs. search needs)
     returns
+    (λ c. search needs)
+    (λ c κs. search needs)
+    (λ c κs. search needs)
+    returns-2
     (λ c κs. search needs)
     (λ c. omega arith)
     (λ c. omega arith)
@@ -212,10 +255,10 @@ answer-at-spec =
     (λ c. omega arith)
     loop-again
     reduce3-requires
-    returns-2
-    reduce1-requires
     returns-3
-    reduce2-requires
+    reduce1-requires
     returns-4
+    reduce2-requires
+    returns-5
     reduce4-requires
-    returns-5)
+    returns-6)

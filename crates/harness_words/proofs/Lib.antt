@@ -1,2 +1,0 @@
--- What tells a NaN.
-pub mod Nan
