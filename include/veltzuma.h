@@ -49,7 +49,7 @@
  *   1  straight  a straight line, as with the original's linearize_extrapolation
  *   2  held      level from the end on: a coordinate below the axis's first entry or above its last is replaced by that entry before
  *                anything else is done with it. Number 8 and the place that get_loc tells are then those of the query so used;
- *                the marks stay those of the query as given. A NaN is never replaced: it is 9 in every mode
+ *                the marks stay those of the query as given. A NaN is never replaced: it is a missing reading in every mode
  * A number above 2 names no mode, and nothing is answered in a mode that nobody named: it is refused with 3, looked at together
  * with slices that are too short. This 3 is ours, and not the mismatch of table 2.2 in docs/SPECIFICATION.md.
  *
