@@ -1,5 +1,5 @@
-/* Reads a small regular table from C: values, slopes, places, marks, a batch that is refused in the middle, and grids that are
- * turned away. Prints what it finds, and exits with 1 where that is not what docs/SPECIFICATION.md says. */
+/* Reads a small regular table from C: values, slopes, places, marks, a batch that is refused in the middle, and grids of either
+ * kind that are turned away. Prints what it finds, and exits with 1 where that is not what docs/SPECIFICATION.md says. */
 #include <math.h>
 #include <stdio.h>
 
@@ -95,5 +95,21 @@ int main(void) {
            veltzuma_regular_interp_one(GRID, CUBIC, inside, 1, refusal, 2, NULL, 0, marks, 1), 7);
     expect("mark after these", marks[0], UNTOUCHED);
     expect("number with no room for marks", veltzuma_regular_interp_one(GRID, CUBIC, inside, 1, refusal, 2, value, 1, NULL, 0), 7);
+
+    /* On a rectilinear axis no entry equals the one before it: 10, which comes after 3 and before 7. A refusal of one entry is too
+     * short, and nothing is written to it. */
+    const double rising[4] = {0.0, 1.0, 2.0, 3.0}, flat[4] = {0.0, 1.0, 1.0, 3.0};
+    size_t told[2] = {UNTOUCHED, UNTOUCHED};
+    expect("number of an axis that rises", veltzuma_rectilinear_new(1, counts, 1, rising, 4, vals, 4, told, 2), 0);
+    expect("the same with too short a refusal", veltzuma_rectilinear_new(1, counts, 1, rising, 4, vals, 4, told, 1), 7);
+    told[0] = told[1] = UNTOUCHED;
+    expect("number of a flat axis", veltzuma_rectilinear_new(1, counts, 1, flat, 4, vals, 4, told, 2), 10);
+    expect("its axis", (double)told[1], 0);
+    told[0] = told[1] = UNTOUCHED;
+    expect("the same with too short a refusal", veltzuma_rectilinear_new(1, counts, 1, flat, 4, vals, 4, told, 1), 10);
+    expect("the refusal after it", (double)told[0], UNTOUCHED);
+    expect("number of a flat axis, no counts", veltzuma_rectilinear_new(1, NULL, 0, flat, 4, vals, 4, told, 1), 3);
+    expect("number of a flat axis, no room",
+           veltzuma_rectilinear_interp_one(1, counts, 1, flat, 4, vals, 4, HELD, missing, 1, told, 2, NULL, 0, NULL, 0), 10);
     return wrong;
 }

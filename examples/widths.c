@@ -38,5 +38,15 @@ int main(void) {
     uint8_t number = veltzuma_regular_interp_f32(1, counts, 1, starts_f32, 1, steps_f32, 1, vals_f32, 4, STRAIGHT, far_f32, 3, refusal, 2, out_f32, 3);
     printf("batch of float, number and query     %u %zu\n", number, refusal[0]);
     wrong |= number != 8 || refusal[0] != 2 || refusal[1] != 0 || out_f32[0] != 3.375f || out_f32[1] == -2.0f || out_f32[2] != -3.0f;
+
+    /* 2^24 + 1 is no float: as floats the last two entries of this axis are equal, and it is refused. */
+    const double axis[4] = {0.0, 1.0, 16777216.0, 16777217.0};
+    float axis_f32[4];
+    for (int i = 0; i < 4; i++)
+        axis_f32[i] = (float)axis[i];
+    number = veltzuma_rectilinear_new(1, counts, 1, axis, 4, vals, 4, refusal, 2);
+    uint8_t number_f32 = veltzuma_rectilinear_new_f32(1, counts, 1, axis_f32, 4, vals_f32, 4, refusal, 2);
+    printf("axis to 2^24 + 1, double and float   %u %u\n", number, number_f32);
+    wrong |= number != 0 || number_f32 != 10 || refusal[0] != 0 || refusal[1] != 0;
     return wrong;
 }

@@ -1,9 +1,10 @@
-/* Veltzuma: value, gradient and place of a query on a cubic surface over a measured grid, for C. This header is of version 3.
+/* Veltzuma: value, gradient and place of a query on a cubic surface over a measured grid, for C. This header is of version 4.
  * Compile every program again with it. The declarations before version 2 differ, and a call compiled with them hands over a wild
- * pointer where the marks go. Those of version 2 are the same, but its calls had no number 9: they gave 8 for a NaN on a regular
- * axis, and answered one on a rectilinear axis, with NaN for the value. Declarations by hand in other languages must follow. A
- * program compares veltzuma_version() with VELTZUMA_VERSION before its other calls; an archive before version 2 has no such call,
- * and does not link.
+ * pointer where the marks go. Those of versions 2 and 3 are the same, but their calls had no number 10: they took a rectilinear
+ * axis on which an entry after entry 1 equals the one before it. Those of version 2 had no number 9 either: they gave 8 for a NaN
+ * on a regular axis, and answered one on a rectilinear axis, with NaN for the value. Declarations by hand in other languages must
+ * follow. A program compares veltzuma_version() with VELTZUMA_VERSION before its other calls; an archive before version 2 has no
+ * such call, and does not link.
  *
  * The archives are libcapi.a (`rt staticlib capi`) and, for single precision, libcapi_f32.a (`rt staticlib capi_f32`), for x86-64. Link them
  * as they are; they need no other library.
@@ -28,20 +29,22 @@
  *   8  regular: a coordinate that is a number has no place, since (coordinate - start) / step is NaN, infinite, at least 2^63 or
  *      below -2^63                                                                 query: the lowest refused; axis: its lowest
  *   9  regular and rectilinear: a coordinate is NaN, a missing reading             query: the lowest refused; axis: its lowest
+ *  10  rectilinear: an entry equals the one before it, -0 and +0 being equal       axis: the lowest such
  *
- * 1 to 7 are checked in this order, each over all axes before the next. Then each query in turn is looked at, axis by axis, on each
- * axis for 9 and then for 8, and what is found first is told: on two regular axes 0, 1, 2, 3 that are not held, (2^63, NaN) is 8
- * with axis 0, and (NaN, 2^63) is 9 with axis 0. Of x only the first axis_count coordinates are looked at. NaN among the values is
- * not refused.
+ * 1 to 6 are checked in this order, then 10, then 7, each over all axes before the next: where axis 0 has equal entries and axis 1
+ * is in disorder, it is 6 with axis 1. Then each query in turn is looked at, axis by axis, on each axis for 9 and then for 8, and
+ * what is found first is told: on two regular axes 0, 1, 2, 3 that are not held, (2^63, NaN) is 8 with axis 0, and (NaN, 2^63) is 9
+ * with axis 0. Of x only the first axis_count coordinates are looked at. NaN among the values is not refused.
  *
- * refusal[0] receives the query and refusal[1] the axis; both are 0 where the table names none. On 7 nothing at all is written.
- * value, gradient, origins, classes and marks are written on 0 alone: the first entry of value, the first axis_count entries of the
- * others. On 8 and 9 a batch holds the answers of the queries before the refused one; every other entry is as it was, a NaN's
- * payload too. Which payload a NaN has that is an answer is not said.
+ * refusal[0] receives the query and refusal[1] the axis; both are 0 where the table names none. On 7 nothing at all is written, and
+ * a refusal of fewer than 2 entries is never written to. value, gradient, origins, classes and marks are written on 0 alone: the
+ * first entry of value, the first axis_count entries of the others. On 8 and 9 a batch holds the answers of the queries before the
+ * refused one; every other entry is as it was, a NaN's payload too. Which payload a NaN has that is an answer is not said.
  *
  * A grid. axis_count is 1 to 4. counts holds the number of entries of each axis.
- *   regular      axis i has the entries starts[i] + steps[i] * k for k from 0 to counts[i] - 1
- *   rectilinear  axes holds all entries of axis 0, then of axis 1, and so on
+ *   regular      axis i has the entries starts[i] + steps[i] * k for k from 0 to counts[i] - 1; as rounded, some may be equal
+ *   rectilinear  axes holds all entries of axis 0, then of axis 1, and so on. In a grid that is taken each entry is above the one
+ *                before it, and no difference of the two rounds to 0
  *   vals         one number for each point, the last axis fastest
  *
  * mode is what is followed past the ends of an axis. No check of a grid depends on it, so new takes none.
@@ -75,7 +78,7 @@ extern "C" {
 #endif
 
 /* The version that these declarations are of, and the one that the archive is of. */
-#define VELTZUMA_VERSION 3
+#define VELTZUMA_VERSION 4
 uint32_t veltzuma_version(void);
 
 #define VELTZUMA_REGULAR                                                                                                       \

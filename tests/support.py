@@ -116,12 +116,12 @@ class Direct:
 
     def ask(self, name, before, *rooms, refusal=(0, 0)):
         """Number, refusal, and what is written to the rooms."""
-        refusal = (ctypes.c_size_t * 2)(*refusal)
+        refusal = (ctypes.c_size_t * len(refusal))(*refusal)
         words = list(self.grid)
         if before:
             mode, x = before
-            words += [ctypes.c_uint8(MODES.index(mode)), (self.float * len(x))(*x), ctypes.c_size_t(len(x))]
-        words += [refusal, ctypes.c_size_t(2)]
+            words += [ctypes.c_uint8(MODES.index(mode) if mode in MODES else mode), (self.float * len(x))(*x), ctypes.c_size_t(len(x))]
+        words += [refusal, ctypes.c_size_t(len(refusal))]
         for room in rooms:
             words += [room, ctypes.c_size_t(len(room))]
         call = self.dll[f'veltzuma_{self.kind}_{name}' + ('_f32' if self.width == 'f32' else '')]

@@ -56,6 +56,9 @@ class Calls(unittest.TestCase):
                 axis = sorted(chosen.uniform(-4, 6) for _ in range(count if count < 5000 else 9))
                 if chosen.random() < 0.06:
                     axis[chosen.randrange(len(axis))] = chosen.choice([math.nan, -50.0])
+                if chosen.random() < 0.06:
+                    at = chosen.randrange(1, len(axis))
+                    axis[at] = axis[at - 1]
                 entries += axis
             lent, made = [entries], veltzuma.MulticubicRectilinear(counts, entries, vals, width)
         return both(made, counts, lent, vals, width)
@@ -116,7 +119,7 @@ class Calls(unittest.TestCase):
 
     def test_numbers_of_the_documents(self):
         """The header and the specification list these refusals and no others."""
-        listed = re.findall(r'^ \*   (\d+)  ', text_of(os.path.join(TOP, 'include', 'veltzuma.h')).split('A grid.')[0], re.M)
+        listed = re.findall(r'^ \* {2,3}(\d+)  ', text_of(os.path.join(TOP, 'include', 'veltzuma.h')).split('A grid.')[0], re.M)
         self.assertEqual([int(number) for number in listed], [0, *veltzuma.REFUSALS])
         listed = re.findall(r'^  \| (\d+) \| ([a-z ]+) \|', text_of(os.path.join(TOP, 'docs', 'SPECIFICATION.md')), re.M)
         self.assertEqual({int(number): name for number, name in listed}, veltzuma.REFUSALS)
@@ -262,7 +265,7 @@ class MarksOfAnswers(unittest.TestCase):
                     self.assertEqual(asked(direct, [-1, 9], 2)[::3], (0, [1, 2]))
                     for length in (0, 1):
                         self.assertEqual(asked(direct, [-1, 9], length), (7, [77, 77], as_it_was, [77] * length))
-                        # Of two refusals the lower number.
+                        # Of two refusals the one whose check is earlier.
                         self.assertEqual(asked(refused, [-1, 9], length), (5, [0, 1], as_it_was, [77] * length))
                     self.assertEqual(asked(refused, [-1, 9], 2), (5, [0, 1], as_it_was, [77, 77]))
                     self.assertEqual(asked(direct, [-1], 2), (3, [0, 0], as_it_was, [77, 77]))
@@ -382,7 +385,8 @@ class MissingReadings(unittest.TestCase):
             for number, grid in ((1, regular([4] * 5, [0] * 5, [1] * 5, vals)), (2, regular([4097], [0], [1], vals)), (3, regular([4], [0], [1], vals[:3])),
                                  (4, regular([3], [0], [1], vals[:3])), (5, regular([4], [0], [0], vals[:4])), (1, rectilinear([4] * 5, range(20), vals)),
                                  (2, rectilinear([4097], range(4097), vals)), (3, rectilinear([4], range(5), vals[:4])), (4, rectilinear([3], range(3), vals[:3])),
-                                 (5, rectilinear([4], [0, 0, 1, 2], vals[:4])), (6, rectilinear([4], [0, 1, math.nan, 3], vals[:4]))):
+                                 (5, rectilinear([4], [0, 0, 1, 2], vals[:4])), (6, rectilinear([4], [0, 1, math.nan, 3], vals[:4])),
+                                 (10, rectilinear([4], [0, 1, 1, 3], vals[:4]))):
                 x = [math.nan] * grid.axis_count
                 for call in (grid.get_loc, grid.interp_one, grid.interp_one_grad):
                     self.assertEqual(self.refused(call, x, mode)[0], number, (grid.kind, number))
@@ -432,6 +436,168 @@ class MissingReadings(unittest.TestCase):
         # A rectilinear axis refuses nothing but a NaN. Held, no number is refused on these axes.
         self.assertEqual(seen, {(kind, width, mode, number) for kind in ('regular', 'rectilinear') for width in veltzuma.WIDTHS for mode in MODES for number in (0, 8, 9)
                                 if number != 8 or kind == 'regular' and mode != 'held'})
+
+
+class FlatAxes(unittest.TestCase):
+    """A rectilinear axis on which an entry after entry 1 equals the one before it is refused with 10: after 5 and 6 of all axes, before 7 and every query."""
+    FLAT, RISING, DISORDER, LEVEL_START = (0, 1, 1, 2), (0, 1, 2, 3), (0, 1, 3, 2), (0, 0, 1, 2)
+
+    @staticmethod
+    def grid(width, *axes):
+        """The binding's, and the same for straight calls."""
+        counts, joined = [len(axis) for axis in axes], [entry for axis in axes for entry in axis]
+        vals = [float(k * k % 17) for k in range(math.prod(counts))]
+        return both(veltzuma.MulticubicRectilinear(counts, joined, vals, width), counts, [joined], vals, width)
+
+    @staticmethod
+    def calls(grid, x, mode):
+        """Each of the six, with one query."""
+        return [grid.new, *(functools.partial(call, x, mode) for call in (grid.get_loc, grid.interp_one, grid.interp_one_grad)),
+                *(functools.partial(call, x, None, mode) for call in (grid.interp, grid.interp_grad))]
+
+    def number(self, call):
+        """Number, query and axis that a call refuses with; all 0 where it answers."""
+        try:
+            call()
+        except veltzuma.Refusal as told:
+            return told.number, told.query, told.axis
+        return 0, 0, 0
+
+    def test_each_call(self):
+        """With its axis, in every setting and width; and nothing is written but that."""
+        for width, mode, (axes, axis) in itertools.product(veltzuma.WIDTHS, MODES, (([self.FLAT], 0), ([self.RISING, self.FLAT], 1), ([self.FLAT, self.FLAT], 0),
+                                                                                    ([self.RISING, self.RISING, [0, 1, 2, 3, 4, 4], self.RISING], 2))):
+            made, direct = self.grid(width, *axes)
+            self.assertEqual([self.number(call) for call in self.calls(made, [0.5] * len(axes), mode)], [(10, 0, axis)] * 6)
+            for call, length in ((made.interp, 1), (made.interp_grad, len(axes))):
+                out = array.array(CODE[width], [-7.0] * length)
+                self.assertEqual((self.number(functools.partial(call, [0.5] * len(axes), out, mode)), out.tolist()), ((10, 0, axis), [-7.0] * length))
+            for name in ('get_loc', 'interp_one', 'interp_one_grad'):
+                rooms = direct.rooms(name)
+                for room in rooms:
+                    room[:] = [77] * len(room)
+                self.assertEqual(direct.ask(name, (mode, [0.5] * len(axes)), *rooms, refusal=(77, 77))[:2], (10, [0, axis]))
+                self.assertEqual([list(room) for room in rooms], [[77] * len(room) for room in rooms])
+        with self.assertRaises(veltzuma.Refusal) as caught:
+            self.grid('f64', self.RISING, self.FLAT)[0].new()
+        self.assertEqual((caught.exception.name, str(caught.exception)), ('flat', 'refused 10 (flat): query 0, axis 1'))
+
+    def test_after_the_other_checks_of_the_axes(self):
+        flat, rising, disorder, start = self.FLAT, self.RISING, self.DISORDER, self.LEVEL_START
+        for width in veltzuma.WIDTHS:
+            for axes, told in (([flat, disorder], (6, 0, 1)), ([disorder, flat], (6, 0, 0)), ([flat, start], (5, 0, 1)), ([flat, disorder, start], (5, 0, 2)),
+                               ([[0, 1, 1, 0.5]], (6, 0, 0)), ([[0, 1, 1, math.nan]], (6, 0, 0)), ([flat, [0, math.nan, 1, 2]], (5, 0, 1)), ([[0, 0, 0, 0]], (5, 0, 0)),
+                               ([[1, 0, 0, 2]], (5, 0, 0)), ([flat, [0, 1, 2]], (4, 0, 1)), ([rising, flat, rising, flat], (10, 0, 1)), ([flat] * 5, (1, 0, 0)),
+                               ([rising, rising], (0, 0, 0))):
+                made, _ = self.grid(width, *axes)
+                self.assertEqual(self.number(made.new), told, (width, axes))
+                # Sizes come first: one value too many.
+                made = veltzuma.MulticubicRectilinear([len(axis) for axis in axes], sum(map(list, axes), []), [1.0] * (math.prod(map(len, axes)) + 1), width)
+                self.assertEqual(self.number(made.new)[0], 1 if len(axes) > 4 else 3, (width, axes))
+
+    def test_by_own_judgement(self):
+        """Random axes of a few numbers: number and axis are those that comparing the entries gives, and what is taken rises strictly."""
+        inf, nan, seen = math.inf, math.nan, {}
+        checks = ((5, lambda axis: not axis[0] < axis[1]), (6, lambda axis: any(x != x or x < before for before, x in zip(axis, axis[1:]))),
+                  (10, lambda axis: any(x == before for before, x in zip(axis, axis[1:]))))
+        chosen = random.Random(21)
+        for turn in range(3000):
+            width, axes = veltzuma.WIDTHS[turn % 2], []
+            for _ in range(chosen.choice([1, 2, 2, 3])):
+                tiny = beside(0.0, True, width)
+                axis = sorted(chosen.choices([-inf, -2.0, -1.0, -tiny, -0.0, 0.0, tiny, 1.0, beside(1.0, True, width), 2.0, inf], k=chosen.randrange(4, 7)))
+                if chosen.random() < 0.7:
+                    axis = sorted(set(axis))
+                    axis += [entry for entry in (3.0, 4.0, 5.0, 6.0) if axis[-1] < entry][:max(0, 4 - len(axis))]
+                    axis = axis if len(axis) > 3 else list(self.RISING)
+                if chosen.random() < 0.1:
+                    axis[chosen.randrange(len(axis))] = chosen.choice([nan, -2.0])
+                axes.append(axis)
+            expected = next(((number, 0, i) for number, wrong in checks for i, axis in enumerate(axes) if wrong(axis)), (0, 0, 0))
+            self.assertEqual(self.number(self.grid(width, *axes)[0].new), expected, (width, axes))
+            if not expected[0]:
+                for axis in axes:
+                    self.assertTrue(all(before < x and array.array(CODE[width], [x - before])[0] > 0 for before, x in zip(axis, axis[1:])), axis)
+            seen[width, expected[0]] = seen.get((width, expected[0]), 0) + 1
+        self.assertEqual(set(seen), set(itertools.product(veltzuma.WIDTHS, (0, 5, 6, 10))))
+        self.assertGreater(min(seen.values()), 50)
+
+    def test_before_7_and_the_queries(self):
+        nan = math.nan
+        for width, mode in itertools.product(veltzuma.WIDTHS, MODES):
+            flat, rising = self.grid(width, self.RISING, self.FLAT)[0], self.grid(width, self.RISING, self.RISING)[0]
+            for length in (0, 1, 3):
+                for name in ('interp', 'interp_grad'):
+                    # Four coordinates are two queries, for which the buffer has a wrong length.
+                    given = [0.5] * 4, array.array(CODE[width], [-7.0] * length), mode
+                    for grid, told in ((flat, (10, 0, 1)), (rising, (7, 0, 0))):
+                        self.assertEqual(self.number(functools.partial(getattr(grid, name), *given)), told, (width, mode, length, name))
+                    self.assertEqual(given[1].tolist(), [-7.0] * length)
+            for x in ([nan, nan], [0.5, nan]):
+                self.assertEqual([self.number(call) for call in self.calls(flat, x, mode)[1:]], [(10, 0, 1)] * 5)
+                self.assertEqual([self.number(call) for call in self.calls(rising, x, mode)[1:]], [(9, 0, 0 if x[0] != x[0] else 1)] * 5)
+
+    def test_short_slices(self):
+        """Straight calls: too little room to write is 7, and 10 before it; too few counts or coordinates, or a mode without a name, are 3, which is before 10."""
+        for width in veltzuma.WIDTHS:
+            grids = {'flat': (10, self.grid(width, self.RISING, self.FLAT)[1]), 'disorder': (6, self.grid(width, self.DISORDER, self.FLAT)[1]),
+                     'rising': (7, self.grid(width, self.RISING, self.RISING)[1])}
+            for number, direct in grids.values():
+                for length in (0, 1):
+                    self.assertEqual(direct.ask('new', None, refusal=[77] * length)[:2], (number, [77] * length))
+                for name in ('get_loc', 'interp_one', 'interp_one_grad'):
+                    for length in (0, 1):
+                        self.assertEqual(direct.ask(name, ('cubic', [0.5, 0.5]), *direct.rooms(name), refusal=[77] * length)[:2], (number, [77] * length))
+                    for k, room in enumerate(direct.rooms(name)):
+                        rooms = direct.rooms(name)
+                        rooms[k] = (room._type_ * (len(room) - 1))()
+                        self.assertEqual(direct.ask(name, ('cubic', [0.5, 0.5]), *rooms)[0], number, (name, k))
+                    for given in (('cubic', [0.5]), ('cubic', []), (3, [0.5, 0.5])):
+                        for length in (1, 2):
+                            found = direct.ask(name, given, *direct.rooms(name), refusal=[77] * length)
+                            self.assertEqual(found[:2], (3, [77] if length == 1 else [0, 0]))
+                for name, length in (('interp', 1), ('interp_grad', 2)):
+                    self.assertEqual(direct.ask(name, ('cubic', [0.5, 0.5]), (direct.float * length)(), refusal=[77])[:2], (number, [77]))
+                    self.assertEqual(direct.ask(name, ('cubic', [0.5, 0.5]), (direct.float * 3)())[0], number)
+                    self.assertEqual(direct.ask(name, (3, [0.5, 0.5]), (direct.float * 3)(), refusal=[77])[:2], (3, [77]))
+                for counts in (0, 1):
+                    direct.grid[2] = ctypes.c_size_t(counts)
+                    for length in (1, 2):
+                        self.assertEqual(direct.ask('new', None, refusal=[77] * length)[0], 3)
+                direct.grid[2] = ctypes.c_size_t(2)
+
+    def test_equal_as_numbers(self):
+        inf = math.inf
+        for width in veltzuma.WIDTHS:
+            for axis in ([-1, -0.0, 0.0, 1], [-1, 0.0, -0.0, 1], [0, 1, inf, inf], [-inf, 1, inf, inf], [0, 1, 2, 3, 3], [-3, -2, -2, -1]):
+                for axes, at in (([axis], 0), ([self.RISING, axis], 1)):
+                    self.assertEqual(self.number(self.grid(width, *axes)[0].new), (10, 0, at), (width, axis))
+            # And one of each is taken.
+            for axis in ([-1, -0.0, 1, 2], [-inf, 0, 1, inf], [-inf, -1, -0.0, 1]):
+                self.assertEqual(self.number(self.grid(width, axis)[0].new), (0, 0, 0), (width, axis))
+            # At the start of an axis it is 5.
+            for axis in ([-0.0, 0.0, 1, 2], [0.0, -0.0, 1, 2], [-inf, -inf, 0, 1], [inf, inf, inf, inf]):
+                self.assertEqual(self.number(self.grid(width, axis)[0].new), (5, 0, 0), (width, axis))
+
+    def test_beside_each_other(self):
+        """Neighbours that are one unit in the last place apart are taken and answered, each with its own number; as f32 those of f64 are equal."""
+        for width, mode in itertools.product(veltzuma.WIDTHS, MODES):
+            up = beside(1.0, True, width)
+            made, _ = self.grid(width, [0.0, 1.0, up, 2.0, 3.0])
+            self.assertEqual([self.number(call) for call in self.calls(made, [up], mode)], [(0, 0, 0)] * 6)
+            self.assertEqual([made.interp_one([x], mode) for x in (1.0, up, 2.0)], [1.0, 4.0, 9.0])
+            self.assertEqual([made.get_loc([x], mode)[0].origin for x in (1.0, up, beside(up, True, width))], [0, 0, 1])
+            tiny = beside(0.0, True, width)
+            for axis in ([-tiny, 0.0, tiny, 2 * tiny], [-1.0, -tiny, tiny, 1.0]):
+                self.assertEqual([self.number(call) for call in self.calls(self.grid(width, axis)[0], [0.0], mode)], [(0, 0, 0)] * 6)
+        made, _ = self.grid('f32', [0.0, 1.0, beside(1.0, True, 'f64'), 2.0])
+        self.assertEqual(self.number(made.new), (10, 0, 0))
+
+    def test_regular(self):
+        """Nodes that are equal as rounded are no refusal: start + step·k is not compared."""
+        for width, mode, (start, step) in itertools.product(veltzuma.WIDTHS, MODES, ((1e16, 0.1), (-1e16, 0.1), (2.0 ** 70, 1.0))):
+            made = veltzuma.MulticubicRegular([4, 4], [0.0, start], [1.0, step], [float(k) for k in range(16)], width)
+            self.assertEqual([self.number(call) for call in self.calls(made, [1.0, start], mode)], [(0, 0, 0)] * 6)
 
 
 class Inputs(unittest.TestCase):

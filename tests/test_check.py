@@ -1,7 +1,9 @@
 """veltzuma check: every refusal of a grid in words with its line, and the premises of the node rule on both sides of each bound."""
+import os
+import re
 import unittest
 
-from support import InFolder, SAMPLES, run, table
+from support import InFolder, SAMPLES, TOP, run, table, text_of
 
 
 def line_of(text, start, nth=1):
@@ -74,11 +76,57 @@ class Refusals(InFolder):
         text = table([('a', [0, 1, 'nan', 3])], lambda *_: 1)
         self.refused(text, line_of(text, 'entries'), "refused 6 (disorder): axis 0 'a', entry 2 is not a number, nan")
 
+    def test_10_flat(self):
+        for entries, said in (([0, 1, 2, 2.5, 3, 3.3, 3.4, 3.4], 'entry 7: 3.4 equals the entry before it'), ([0, 1, 2, '2.0', 5], 'entry 3: 2 equals the entry before it'),
+                              # Of several the first.
+                              ([0, 1, 1, 1, 2, 2], 'entry 2: 1 equals the entry before it'), ([-1, '-0', 0, 1], 'entry 2: 0 equals the entry before it, -0'),
+                              ([-1, 0, '-0', 1], 'entry 2: -0 equals the entry before it, 0'), ([0, 1, 'inf', 'inf'], 'entry 3: inf equals the entry before it'),
+                              (['-inf', 0, 'inf', 'inf'], 'entry 3: inf equals the entry before it')):
+            text = table([('flow', [0, 1, 2, 3]), ('heat', entries)], lambda *_: 1)
+            for width in ('f64', 'f32'):
+                self.refused(text, line_of(text, 'entries', 2), f"refused 10 (flat): axis 1 'heat', {said}", width)
+
+    def test_10_after_5_and_6(self):
+        """Each looks at all axes before the next."""
+        flat, line = [0, 1, 1, 2], ('entries', 2)
+        for entries, said in (([0, 0, 1, 2], "refused 5 (not rising): axis 1 'b', entry 1: 0 is not above the entry before it, 0"),
+                              ([0, 1, 3, 2], "refused 6 (disorder): axis 1 'b', entry 3: 2 is below the entry before it, 3"),
+                              ([0, 1, 2, 'nan'], "refused 6 (disorder): axis 1 'b', entry 3 is not a number, nan"),
+                              ([0, 1, 2, 1], "refused 6 (disorder): axis 1 'b', entry 3: 1 is below the entry before it, 2")):
+            text = table([('a', flat), ('b', entries)], lambda *_: 1)
+            self.refused(text, line_of(text, *line), said)
+        # Of two flat axes the lowest.
+        text = table([('a', [0, 1, 2, 3]), ('b', flat), ('c', flat)], lambda *_: 1)
+        self.refused(text, line_of(text, *line), "refused 10 (flat): axis 1 'b', entry 2: 1 equals the entry before it")
+
     def test_in_f32_alone(self):
-        """Two entries that f32 does not tell apart."""
-        text = table([('a', [1, 1.00000001, 2, 3])], lambda *_: 1)
-        self.assertEqual(run('check', self.write(text))[0], 0)
-        self.refused(text, line_of(text, 'entries'), "refused 5 (not rising): axis 0 'a', entry 1: 1 is not above the entry before it, 1", 'f32')
+        """Two entries that f32 does not tell apart: 5 at the start of an axis, 10 after it, where both are told as they are in f64."""
+        for entries, said in (([1, 1.00000001, 2, 3], "5 (not rising): axis 0 'a', entry 1: 1 is not above the entry before it, 1"),
+                              ([0, 1, 1.00000001, 3], "10 (flat): axis 0 'a', entry 2: 1.00000001 and the entry before it, 1, are both 1 in f32"),
+                              ([0, 1, 16777216, 16777217], "10 (flat): axis 0 'a', entry 3: 16777217 and the entry before it, 16777216, are both 16777216 in f32"),
+                              ([0, 1, '1e39', '1e40'], "10 (flat): axis 0 'a', entry 3: 1e+40 and the entry before it, 1e+39, are both inf in f32"),
+                              ([-1, -0.5, '-1e-50', '1e-50'], "10 (flat): axis 0 'a', entry 3: 1e-50 and the entry before it, -1e-50, are both 0 in f32")):
+            text = table([('a', entries)], lambda *_: 1)
+            self.assertEqual(run('check', self.write(text))[0], 0)
+            self.refused(text, line_of(text, 'entries'), 'refused ' + said, 'f32')
+        # In f64 they are out of order.
+        text = table([('a', [0, 1.00000001, 1, 3])], lambda *_: 1)
+        self.refused(text, line_of(text, 'entries'), "refused 6 (disorder): axis 0 'a', entry 2: 1 is below the entry before it, 1.00000001")
+        self.refused(text, line_of(text, 'entries'), "refused 10 (flat): axis 0 'a', entry 2: 1 and the entry before it, 1.00000001, are both 1 in f32", 'f32')
+
+    def test_in_f64_alone(self):
+        """Texts that are one f64, the middle between two numbers of f32, and in f32 lie on either side of it."""
+        text = table([('a', [0, '1.00000005960464477539062499999999', '1.00000005960464477539062500000001', 3])], lambda *_: 1)
+        self.refused(text, line_of(text, 'entries'), "refused 10 (flat): axis 0 'a', entry 2: 1.0000000596046448 equals the entry before it")
+        self.assertEqual(run('check', self.write(text), '--width', 'f32')[0], 0)
+
+    def test_words_of_the_document(self):
+        """docs/TABLES.md quotes what is said."""
+        told = re.findall(r'`(refused 10 [^`]+)`', ' '.join(text_of(os.path.join(TOP, 'docs', 'TABLES.md')).split()))
+        self.assertEqual(len(told), 2)
+        for said, width, last in zip(told, ('f64', 'f32'), ('3.4', '3.40000001')):
+            text = table([('flow', [0, 1, 2, 3]), ('heat', [0, 1, 2, 2.5, 3, 3.3, 3.4, last])], lambda *_: 1)
+            self.refused(text, line_of(text, 'entries', 2), said, width)
 
 
 class Premises(InFolder):
@@ -113,10 +161,16 @@ class Premises(InFolder):
                      "axis 0 'a', entry 2: its gap to the entry before it, 4.76837158203125e-07, is below 2^-20", 'f64')
         self.outside(table([('a', [0, 1, 2, 2.0 ** 20 + 3])], lambda i: i), 'entries',
                      "axis 0 'a', entry 3: its gap to the entry before it, 1048577, is above 2^20")
-        # Equal neighbours are accepted, and their gap is 0.
-        self.outside(table([('a', [0, 1, 1, 3, 3])], lambda i: i), 'entries',
-                     "axis 0 'a', entry 2: its gap to the entry before it, 0, is below 2^-20; so are 1 more")
+        # Neighbours that are one unit in the last place apart are taken, the least numbers of all too.
+        for width, beside, gap in (('f64', '1.0000000000000002', '2.220446049250313e-16'), ('f32', '1.00000012', '1.1920929e-07')):
+            self.outside(table([('a', [0, 1, beside, 3])], lambda i: i), 'entries',
+                         f"axis 0 'a', entry 2: its gap to the entry before it, {gap}, is below 2^-20", width)
+        for width, tiny in (('f64', '5e-324'), ('f32', '1.4013e-45')):
+            self.outside(table([('a', [-1, 0, tiny, 2 * float(tiny), 2])], lambda i: i), 'entries',
+                         f"axis 0 'a', entry 2: its gap to the entry before it, {tiny}, is below 2^-20; so are 1 more", width)
         self.outside(table([('a', [0, 1, 2, 'inf'])], lambda i: i), 'entries', "axis 0 'a', entry 3: its gap to the entry before it, inf, is above 2^20")
+        self.outside(table([('a', ['-inf', 0, 1, 'inf'])], lambda i: i), 'entries',
+                     "axis 0 'a', entry 1: its gap to the entry before it, inf, is above 2^20; so are 1 more")
 
     def test_gaps_are_rounded_in_the_width(self):
         """A difference of 2^20 + 0.01, which f32 rounds to 2^20."""

@@ -153,8 +153,8 @@ class Plot(InFolder):
 
     def test_numbers_at_the_edge(self):
         for values in (['nan'] * 4, ['inf', '-inf', 1, 2], ['1.7e308', '-1.7e308', '1e308', 0], ['5e-324', 0, 0, '1e-323'], [3, 3, 3, 3]):
-            for entries in ([0, 1, 2, 3], ['-1.7e308', 0, '1e308', '1.7e308'], ['5e-324', '1e-323', '2e-323', '3e-323'], [0, 1, 2, 'inf'], ['-inf', 1, 1, 1],
-                            ['-inf', 'inf', 'inf', 'inf'], ['1e15', '1.000000000000001e15', '1.1e15', '1.2e15'], ['1.79e308', '1.792e308', '1.795e308', '1.7976931348623157e308']):
+            for entries in ([0, 1, 2, 3], ['-1.7e308', 0, '1e308', '1.7e308'], ['5e-324', '1e-323', '2e-323', '3e-323'], [0, 1, 2, 'inf'], ['-inf', 0, '5e-324', 'inf'],
+                            ['-inf', 1, '1.0000000000000002', 2], ['1e15', '1.000000000000001e15', '1.1e15', '1.2e15'], ['1.79e308', '1.792e308', '1.795e308', '1.7976931348623157e308']):
                 for more in ([], ['--slope', '--at', 'inf'], ['--at', '1e300', '--mode', 'held']):
                     root = self.drawn(self.write(table([('a', entries)], [values])), '--along', 'a', *more)
                     text = xml.etree.ElementTree.tostring(root).decode()
@@ -257,8 +257,9 @@ class Report(InFolder):
                 self.assertEqual(figures, stored)
             for section in ('What is proved about every answer', 'docs/SPECIFICATION.md 8.5', 'docs/EVIDENCE.md', 'Not proved'):
                 self.assertIn(section, said)
-            self.assertIn('refuses with one of nine numbers', said)
-            self.assertEqual(len(veltzuma.REFUSALS), 9)
+            self.assertIn('refuses with one of ten numbers', said)
+            self.assertEqual(len(veltzuma.REFUSALS), 10)
+            self.assertIn('Axes rise strictly. On each axis of a rectilinear table that is taken, every entry is above the one before it', said)
             self.assertRegex(said, 'Truly outside. .* is marked on no axis. This table is within them in f64 and in f32. '
                              r'\(docs/SPECIFICATION.md 3.8 and 8.8; docs/EVIDENCE.md, “Marks”\)')
 
@@ -266,7 +267,7 @@ class Report(InFolder):
         """Each is there, and each section of the evidence."""
         _, said = self.page(LARGEST)
         cited = re.findall(r'\(docs/SPECIFICATION.md ([^;)]+); docs/EVIDENCE.md, “([^”]+)”\)', said)
-        self.assertEqual(len(cited), 6)
+        self.assertEqual(len(cited), 7)
         specification, evidence = (text_of(os.path.join(TOP, 'docs', name)) for name in ('SPECIFICATION.md', 'EVIDENCE.md'))
         for clauses, section in cited:
             for clause in re.findall(r'[0-9.]+', clauses):
@@ -289,8 +290,14 @@ class Report(InFolder):
         self.assertIn("line 6: refused 6 (disorder): axis 0 'a', entry 3: 2 is below the entry before it, 3", said)
         for axes in ([], [(f'a{i}', [0, 1, 2, 3]) for i in range(5)], [('a', [])]):
             self.page(self.write(table(axes, [['1']])), 1)
-        text, said = self.page(self.write(table([('a', [1, 1.00000001, 2, 3])], [[1, 2, 3, 4]])), 0)
-        self.assertIn('Taken in f64 alone', said)
+        text, said = self.page(self.write(table([('a', [0, 1, 1, 3])], [[1, 2, 3, 4]])), 1)
+        self.assertEqual(said.count("line 6: refused 10 (flat): axis 0 'a', entry 2: 1 equals the entry before it"), 2)
+        self.assertNotIn('<svg', text)
+        for entries, told in (([1, 1.00000001, 2, 3], "5 (not rising): axis 0 'a', entry 1: 1 is not above the entry before it, 1"),
+                              ([0, 1, 1.00000001, 3], "10 (flat): axis 0 'a', entry 2: 1.00000001 and the entry before it, 1, are both 1 in f32")):
+            text, said = self.page(self.write(table([('a', entries)], [[1, 2, 3, 4]])), 0)
+            self.assertIn('Taken in f64 alone', said)
+            self.assertIn(f'f32 line 6: refused {told} –', said)
 
     def test_outside_the_premises(self):
         text, said = self.page(self.write(table([('a', 0, 0.1, 4)], [[1, 2, 3, 4]], 'regular')), 0, '--mode', 'held')
@@ -364,6 +371,9 @@ class Diff(InFolder):
     def test_refused(self):
         one, other = self.write(RAMP, 'one.table'), self.write(RAMP.replace('0, 10, 20', '0, 0, 20'), 'other.table')
         self.assertOneLine(run('diff', one, other), 2, f'{other}:9: refused 5 (not rising)')
+        self.write(RAMP.replace('20, 30', '20, 20'), 'other.table')
+        for first, second in ((one, other), (other, one)):
+            self.assertOneLine(run('diff', first, second), 2, f"{other}:9: refused 10 (flat): axis 1 'b', entry 3: 20 equals the entry before it")
 
 
 if __name__ == '__main__':

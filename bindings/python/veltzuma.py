@@ -18,7 +18,8 @@ Numbers are given as a list, an `array`, any other buffer of numbers, or a numpy
 written, in one piece, is lent as it is, so that a later change of it is seen; everything else is copied, each number as Python makes it a float, and
 for f32 rounded once more. Nothing is judged before a call: what the library refuses is raised as a Refusal. docs/SPECIFICATION.md says what is
 answered. A NaN in a query is a missing reading, which is refused with 9 unless a lower axis refuses with 8; a NaN among the values is
-not refused.
+not refused. Of a rectilinear axis, entry 1 that equals entry 0 is refused with 5, and a later entry that equals the one before it with 10: where
+such a grid is taken, each axis rises strictly.
 
 The first grid loads the library: see `load`. One of another version than VERSION is turned away: its calls take other arguments, or answer otherwise.
 """
@@ -34,11 +35,11 @@ __all__ = ['MulticubicRegular', 'MulticubicRectilinear', 'Refusal', 'Place', 'Ma
            'REFUSALS', 'SATURATION', 'MAX_QUERIES', 'VERSION']
 
 # Of the calls, as VELTZUMA_VERSION in include/veltzuma.h.
-VERSION = 3
+VERSION = 4
 MODES = {'cubic': 0, 'straight': 1, 'held': 2}
 WIDTHS = ('f64', 'f32')
 # Clause 2.2.
-REFUSALS = {1: 'axes', 2: 'size', 3: 'mismatch', 4: 'short', 5: 'not rising', 6: 'disorder', 7: 'batch', 8: 'unplaceable', 9: 'missing'}
+REFUSALS = {1: 'axes', 2: 'size', 3: 'mismatch', 4: 'short', 5: 'not rising', 6: 'disorder', 7: 'batch', 8: 'unplaceable', 9: 'missing', 10: 'flat'}
 SATURATION = ('None', 'InsideLow', 'OutsideLow', 'InsideHigh', 'OutsideHigh')
 MAX_QUERIES = 1 << 20
 
@@ -362,7 +363,8 @@ class MulticubicRegular(_Grid):
 
 
 class MulticubicRectilinear(_Grid):
-    """A rectilinear grid: `axes` holds the entries of all axes joined, counts[i] of them for axis i. The last axis of vals varies fastest."""
+    """A rectilinear grid: `axes` holds the entries of all axes joined, counts[i] of them for axis i, and each axis rises strictly. The last axis of vals
+    varies fastest."""
     kind = 'rectilinear'
 
     def __init__(self, counts, axes, vals, width='f64', axis_count=None, library=None):

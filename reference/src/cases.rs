@@ -1,9 +1,11 @@
 //! Random grids and queries, the same for the same seed. Used by `corpus` and `compare`.
-//! All grids made here are ordered, so that both sides take them or both refuse them.
+//! All grids made here are ordered, so that both sides take them or both refuse them, but for flat axes: those ours refuses
+//! with 10 and the Rust takes. A rectilinear axis may be flat as drawn, for ours alone; `mended` makes it rise for both.
 //! The draws of f64 must not change: the corpus of f64 is made of them.
 use crate::width::Width;
 
 /// splitmix64: small, and the same on every machine.
+#[derive(Default)]
 pub struct Rng(pub u64);
 impl Rng {
     pub fn next(&mut self) -> u64 {
@@ -52,6 +54,30 @@ impl<T: Width> Axis<T> {
             Axis::Rectilinear(a) => a[i],
         }
     }
+    /// Whether an entry of a rectilinear axis is equal to the one before it, as numbers: -0 and +0 are.
+    pub fn flat(&self) -> bool {
+        matches!(self, Axis::Rectilinear(a) if a.windows(2).any(|pair| pair[0] == pair[1]))
+    }
+    /// The axis with every entry above the one before it, for an axis that is ordered; one that rises stays as it is. Each
+    /// entry that does not rise is the next number above the one before it. There is none above infinity: then the entries
+    /// before it are the numbers below it, one after the other.
+    pub fn mended(&self) -> Axis<T> {
+        let mut axis = self.clone();
+        if let Axis::Rectilinear(a) = &mut axis {
+            for i in 1..a.len() {
+                if !(a[i] > a[i - 1]) {
+                    a[i] = a[i - 1].up();
+                }
+            }
+            for i in (1..a.len()).rev() {
+                if !(a[i - 1] < a[i]) {
+                    a[i - 1] = a[i].down();
+                }
+            }
+            assert!(a.windows(2).all(|pair| pair[1] > pair[0]));
+        }
+        axis
+    }
     /// Whether the quotient is exactly -2^63, where the two sides are meant to differ.
     pub fn apart(&self, x: T) -> bool {
         match self {
@@ -71,6 +97,8 @@ pub struct Grid<T> {
     pub rectilinear: bool,
     /// The Rust is asked in STRAIGHT where it is that, and in CUBIC where it is anything else.
     pub mode: u8,
+    /// As told to ours; the counts may be fewer.
+    pub axis_count: usize,
     pub counts: Vec<usize>,
     pub starts: Vec<T>,
     pub steps: Vec<T>,
@@ -82,6 +110,7 @@ impl<T: Width> Grid<T> {
         let mut g = Grid {
             rectilinear: matches!(axes[0], Axis::Rectilinear(_)),
             mode,
+            axis_count: axes.len(),
             counts: axes.iter().map(Axis::n).collect(),
             starts: vec![],
             steps: vec![],
@@ -175,6 +204,7 @@ pub fn regular_axis<T: Width>(r: &mut Rng, flavour: &str, n: usize) -> Axis<T> {
     Axis::Regular { start, step, n }
 }
 
+/// An axis that is ordered, and may be flat: the flavours `flat` and `zeros` are, `extreme`, `huge` and `bits` may be.
 pub fn rectilinear_axis<T: Width>(r: &mut Rng, flavour: &str, n: usize) -> Axis<T> {
     // Each sum is rounded; where it does not rise, the next number above is taken.
     let rising = |r: &mut Rng, first: T, gap: &mut dyn FnMut(&mut Rng) -> T| {
@@ -259,7 +289,7 @@ pub fn rectilinear_axis<T: Width>(r: &mut Rng, flavour: &str, n: usize) -> Axis<
         }
         _ => unreachable!(),
     };
-    // Whatever a flavour did, the axis is ordered after entry 1.
+    // Whatever a flavour did, the axis is ordered; here too it may come out flat after entry 1.
     for i in 2..n {
         if a[i] < a[i - 1] {
             a[i] = a[i - 1];

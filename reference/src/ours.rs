@@ -5,7 +5,7 @@
 use crate::cases::Grid;
 use crate::width::Width;
 
-pub const VERSION: u32 = 3;
+pub const VERSION: u32 = 4;
 
 pub trait Calls: Width {
     fn version() -> u32;
@@ -117,12 +117,12 @@ macro_rules! calls {
                     unsafe {
                         if g.rectilinear {
                             rectilinear_new(
-                                g.counts.len(), g.counts.as_ptr(), g.counts.len(), g.joined.as_ptr(), g.joined.len(),
+                                g.axis_count, g.counts.as_ptr(), g.counts.len(), g.joined.as_ptr(), g.joined.len(),
                                 g.values.as_ptr(), g.values.len(), refusal.as_mut_ptr(), refusal.len(),
                             )
                         } else {
                             regular_new(
-                                g.counts.len(), g.counts.as_ptr(), g.counts.len(), g.starts.as_ptr(), g.starts.len(),
+                                g.axis_count, g.counts.as_ptr(), g.counts.len(), g.starts.as_ptr(), g.starts.len(),
                                 g.steps.as_ptr(), g.steps.len(), g.values.as_ptr(), g.values.len(),
                                 refusal.as_mut_ptr(), refusal.len(),
                             )
@@ -135,14 +135,14 @@ macro_rules! calls {
                     unsafe {
                         if g.rectilinear {
                             rectilinear_get_loc(
-                                g.counts.len(), g.counts.as_ptr(), g.counts.len(), g.joined.as_ptr(), g.joined.len(),
+                                g.axis_count, g.counts.as_ptr(), g.counts.len(), g.joined.as_ptr(), g.joined.len(),
                                 g.values.as_ptr(), g.values.len(), g.mode, x.as_ptr(), x.len(),
                                 refusal.as_mut_ptr(), refusal.len(), origins.as_mut_ptr(), origins.len(),
                                 classes.as_mut_ptr(), classes.len(), marks.as_mut_ptr(), marks.len(),
                             )
                         } else {
                             regular_get_loc(
-                                g.counts.len(), g.counts.as_ptr(), g.counts.len(), g.starts.as_ptr(), g.starts.len(),
+                                g.axis_count, g.counts.as_ptr(), g.counts.len(), g.starts.as_ptr(), g.starts.len(),
                                 g.steps.as_ptr(), g.steps.len(), g.values.as_ptr(), g.values.len(), g.mode,
                                 x.as_ptr(), x.len(), refusal.as_mut_ptr(), refusal.len(),
                                 origins.as_mut_ptr(), origins.len(), classes.as_mut_ptr(), classes.len(),
@@ -155,14 +155,14 @@ macro_rules! calls {
                     unsafe {
                         if g.rectilinear {
                             rectilinear_interp_one(
-                                g.counts.len(), g.counts.as_ptr(), g.counts.len(), g.joined.as_ptr(), g.joined.len(),
+                                g.axis_count, g.counts.as_ptr(), g.counts.len(), g.joined.as_ptr(), g.joined.len(),
                                 g.values.as_ptr(), g.values.len(), g.mode, x.as_ptr(), x.len(),
                                 refusal.as_mut_ptr(), refusal.len(), value.as_mut_ptr(), value.len(),
                                 marks.as_mut_ptr(), marks.len(),
                             )
                         } else {
                             regular_interp_one(
-                                g.counts.len(), g.counts.as_ptr(), g.counts.len(), g.starts.as_ptr(), g.starts.len(),
+                                g.axis_count, g.counts.as_ptr(), g.counts.len(), g.starts.as_ptr(), g.starts.len(),
                                 g.steps.as_ptr(), g.steps.len(), g.values.as_ptr(), g.values.len(), g.mode,
                                 x.as_ptr(), x.len(), refusal.as_mut_ptr(), refusal.len(), value.as_mut_ptr(), value.len(),
                                 marks.as_mut_ptr(), marks.len(),
@@ -174,14 +174,14 @@ macro_rules! calls {
                     unsafe {
                         if g.rectilinear {
                             rectilinear_interp_one_grad(
-                                g.counts.len(), g.counts.as_ptr(), g.counts.len(), g.joined.as_ptr(), g.joined.len(),
+                                g.axis_count, g.counts.as_ptr(), g.counts.len(), g.joined.as_ptr(), g.joined.len(),
                                 g.values.as_ptr(), g.values.len(), g.mode, x.as_ptr(), x.len(),
                                 refusal.as_mut_ptr(), refusal.len(), gradient.as_mut_ptr(), gradient.len(),
                                 marks.as_mut_ptr(), marks.len(),
                             )
                         } else {
                             regular_interp_one_grad(
-                                g.counts.len(), g.counts.as_ptr(), g.counts.len(), g.starts.as_ptr(), g.starts.len(),
+                                g.axis_count, g.counts.as_ptr(), g.counts.len(), g.starts.as_ptr(), g.starts.len(),
                                 g.steps.as_ptr(), g.steps.len(), g.values.as_ptr(), g.values.len(), g.mode,
                                 x.as_ptr(), x.len(), refusal.as_mut_ptr(), refusal.len(),
                                 gradient.as_mut_ptr(), gradient.len(), marks.as_mut_ptr(), marks.len(),
@@ -193,13 +193,13 @@ macro_rules! calls {
                     unsafe {
                         if g.rectilinear {
                             rectilinear_interp(
-                                g.counts.len(), g.counts.as_ptr(), g.counts.len(), g.joined.as_ptr(), g.joined.len(),
+                                g.axis_count, g.counts.as_ptr(), g.counts.len(), g.joined.as_ptr(), g.joined.len(),
                                 g.values.as_ptr(), g.values.len(), g.mode, queries.as_ptr(), queries.len(),
                                 refusal.as_mut_ptr(), refusal.len(), out.as_mut_ptr(), out.len(),
                             )
                         } else {
                             regular_interp(
-                                g.counts.len(), g.counts.as_ptr(), g.counts.len(), g.starts.as_ptr(), g.starts.len(),
+                                g.axis_count, g.counts.as_ptr(), g.counts.len(), g.starts.as_ptr(), g.starts.len(),
                                 g.steps.as_ptr(), g.steps.len(), g.values.as_ptr(), g.values.len(), g.mode,
                                 queries.as_ptr(), queries.len(), refusal.as_mut_ptr(), refusal.len(),
                                 out.as_mut_ptr(), out.len(),
@@ -211,13 +211,13 @@ macro_rules! calls {
                     unsafe {
                         if g.rectilinear {
                             rectilinear_interp_grad(
-                                g.counts.len(), g.counts.as_ptr(), g.counts.len(), g.joined.as_ptr(), g.joined.len(),
+                                g.axis_count, g.counts.as_ptr(), g.counts.len(), g.joined.as_ptr(), g.joined.len(),
                                 g.values.as_ptr(), g.values.len(), g.mode, queries.as_ptr(), queries.len(),
                                 refusal.as_mut_ptr(), refusal.len(), out.as_mut_ptr(), out.len(),
                             )
                         } else {
                             regular_interp_grad(
-                                g.counts.len(), g.counts.as_ptr(), g.counts.len(), g.starts.as_ptr(), g.starts.len(),
+                                g.axis_count, g.counts.as_ptr(), g.counts.len(), g.starts.as_ptr(), g.starts.len(),
                                 g.steps.as_ptr(), g.steps.len(), g.values.as_ptr(), g.values.len(), g.mode,
                                 queries.as_ptr(), queries.len(), refusal.as_mut_ptr(), refusal.len(),
                                 out.as_mut_ptr(), out.len(),

@@ -110,7 +110,8 @@ class Axis:
     def __init__(self, name, line, width):
         self.name, self.line, self.width, self.unit = name, line, width, None
         self.start = self.step = self.count = None
-        self.listed = None
+        # Of a rectilinear axis: the entries in the width, and as the file has them.
+        self.listed = self.text = None
         self.lines = {}
 
     @functools.cached_property
@@ -270,7 +271,7 @@ class _Reading:
                 self.bad(line, f"a second '{key}:' of axis '{axis.name}'")
             axis.lines[key] = line
             if key == 'entries':
-                axis.listed = numbers_in(rest, self.path, line, self.width) if rest else []
+                axis.listed, axis.text = numbers_in(rest, self.path, line, self.width) if rest else [], rest
                 axis.count = len(axis.listed)
                 del axis.listed[MOST_ENTRIES:]
             elif key == 'count':

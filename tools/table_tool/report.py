@@ -161,8 +161,10 @@ def _proved(table, verdicts):
                else 'This table is outside them, so nothing is claimed here of its stored points.')
     block = ' × '.join(['4'] * len(table.axes)) if len(table.axes) in (1, 2, 3, 4) else '4 to each axis'
     proved = [
-        ('Any query.', 'Every call answers, or refuses with one of nine numbers; nothing overflows, and nothing outside of what it is given is '
+        ('Any query.', 'Every call answers, or refuses with one of ten numbers; nothing overflows, and nothing outside of what it is given is '
          'read or written.', '1.1 and 2.2', '“Any input”'),
+        ('Axes rise strictly.', 'On each axis of a rectilinear table that is taken, every entry is above the one before it, and no gap, as rounded in '
+         'the width, is zero.', '2.6', '“Strictly rising axes”'),
         ('Equal to the definitions.', 'Place, value and slope are, for every query, what the definitions give: each operation rounded by '
          'IEEE 754, in a stated order, in f64 and in f32.', '3 to 7', '“Equal to the definitions”'),
         ('Stored points.', 'Within the premises, a query at a stored point answers with the number stored there, +0 and −0 as one; alone, in a '

@@ -2,7 +2,7 @@
 import math
 from fractions import Fraction
 
-from . import floats
+from . import files, floats
 
 MOST_ENTRIES, MOST_POINTS = 4096, 1 << 20
 LEAST_GAP, MOST_GAP, MOST_STEPS = 2.0 ** -20, 2.0 ** 20, 1 << 20
@@ -79,11 +79,25 @@ def _disorder(table, axis):
     raise AssertionError('refusal 6 of an axis in order')
 
 
+def _flat(table, axis):
+    found = table.axes[axis]
+    i = next(i for i in range(1, len(found.entries)) if found.entries[i] == found.entries[i - 1])
+    # Two entries that differ in the file may be one number in f32, so both are shown as they were before that rounding.
+    before, entry = files.numbers_in(found.text, table.path, found.lines['entries'], 'f64')[i - 1:i + 1]
+    first, second = (floats.show(number, 'f64') for number in (before, entry))
+    if entry != before:
+        words = f'{second} and the entry before it, {first}, are both {floats.show(found.entries[i], table.width)} in {table.width}'
+    else:
+        # Of 0 and -0 both are told.
+        words = f'{second} equals the entry before it' + (f', {first}' if first != second else '')
+    return found.lines['entries'], f'{axis_words(table, axis)}, entry {i}: {words}'
+
+
 def _line_of(axis, key):
     return axis.lines.get(key, axis.lines.get('entries', axis.line))
 
 
-_PLACES = {1: _axes, 2: _size, 3: _mismatch, 4: _short, 5: _not_rising, 6: _disorder}
+_PLACES = {1: _axes, 2: _size, 3: _mismatch, 4: _short, 5: _not_rising, 6: _disorder, 10: _flat}
 
 
 def of_query(table, refusal, x):
@@ -130,7 +144,7 @@ def _rectilinear(axis, width):
     for i in range(1, axis.count):
         gap = floats.round_to(axis.entries[i] - axis.entries[i - 1], width)
         if not LEAST_GAP <= gap <= MOST_GAP:
-            side = 'below 2^-20' if gap < LEAST_GAP else 'above 2^20' if gap > MOST_GAP else 'not a number'
+            side = 'below 2^-20' if gap < LEAST_GAP else 'above 2^20'
             problems.append((axis.lines['entries'], f', entry {i}: its gap to the entry before it, {floats.show(gap, width)}, is {side}'))
     return problems
 

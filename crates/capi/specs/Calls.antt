@@ -12,7 +12,7 @@ use Rattle.told.specs.Told.{withValue, withFirst, withPlaces, Leaves, leaves, l
 
 -- Clause 11.5: the version of the calls, raised where a call changes what it takes or leaves.
 abbrev pub version : ℕ
-version = 3
+version = 4
 
 -- `new`: the verdict alone
 unfoldable pub newLeaves : Gathered → List ℕ → Leaves Unit

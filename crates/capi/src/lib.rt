@@ -26,7 +26,7 @@ use told::tell_value;
 pub extern "C" fn veltzuma_version() -> u32
     ensures { λ r. ⌜ r ≡ version ⌝ }
 {
-    3
+    4
 }
 
 // Takes a grid or turns it away.

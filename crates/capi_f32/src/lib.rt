@@ -27,7 +27,7 @@ use told_f32::tell_value;
 pub extern "C" fn veltzuma_version_f32() -> u32
     ensures { λ r. ⌜ r ≡ version ⌝ }
 {
-    3
+    4
 }
 
 // Takes a grid or turns it away.

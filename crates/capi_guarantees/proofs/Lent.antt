@@ -10,17 +10,17 @@ use Rattle.multicubic.specs.declared.Outcome.the-variants.{Accepted, Refused}
 use Rattle.multicubic.specs.Grid.{refuse}
 use Rattle.multicubic.proofs.Passed.{not-accepted, then-accepted, refuse-accepted}
 use Rattle.grid.specs.Query.{Grid}
-use Rattle.slices.specs.Slices.{slicesOf, querySlicesOf, lower}
+use Rattle.slices.specs.Slices.{slicesOf, querySlicesOf, gridFirst, earlier}
 use Rattle.slices.specs.Lent.{Gathered, lent, lentTo, lentToQuery}
 use Rattle.slices.proofs.Lent.{whole}
 use Rattle.guarantees.specs.Statements.{IsAccepted}
 use Rattle.guarantees.proofs.Nodes.{Supplied}
 use Rattle.guarantees.proofs.Blocks.{Counted}
 
-lower-accepted : (slices checked : Outcome) → lower slices checked ≡ Accepted → (slices ≡ Accepted) × (checked ≡ Accepted)
-lower-accepted Accepted checked e = (refl, e)
-lower-accepted (Refused number query axis) Accepted e = absurd (not-accepted number query axis e)
-lower-accepted (Refused number query axis) (Refused k q a) e = absurd (go (ltb k number) e)
+earlier-accepted : (slices checked : Outcome) → earlier slices checked ≡ Accepted → (slices ≡ Accepted) × (checked ≡ Accepted)
+earlier-accepted Accepted checked e = (refl, e)
+earlier-accepted (Refused number query axis) Accepted e = absurd (not-accepted number query axis e)
+earlier-accepted (Refused number query axis) (Refused k q a) e = absurd (go (gridFirst k number) e)
   where
     go : (b : Bool) → cond b (Refused k q a) (Refused number query axis) ≡ Accepted → ⊥
     go true e = not-accepted k q a e
@@ -28,7 +28,7 @@ lower-accepted (Refused number query axis) (Refused k q a) e = absurd (go (ltb k
 
 module _ (slices : Outcome) (g : Grid) where
   pub accepted : IsAccepted (lent slices g) → IsAccepted g
-  accepted e = lower-accepted slices (g .checked) e .1
+  accepted e = earlier-accepted slices (g .checked) e .1
 
   pub lent-supplied : {f : Format} {premises : Type 0} → Supplied f premises g → Supplied f premises (lent slices g)
   lent-supplied kind = record {
@@ -56,7 +56,7 @@ module _ (s : Gathered) (refusal : ℕ) where
 
   pub refusal-holds : IsAccepted (lentTo s refusal) → 2 ≤ refusal
   unfolding slicesOf
-  refusal-holds e = ltb-false refusal 2 (refuse-accepted _ 7 (then-accepted (refuse (ltb (s .shortest) (s .grid .axis-count)) 3) _ (lower-accepted slices (s .grid .checked) e .0) .1))
+  refusal-holds e = ltb-false refusal 2 (refuse-accepted _ 7 (then-accepted (refuse (ltb (s .shortest) (s .grid .axis-count)) 3) _ (earlier-accepted slices (s .grid .checked) e .0) .1))
 
 -- to a single query: what is to be written has room, and so have the marks
 module _ (s : Gathered) (query refusal room need marks : ℕ) where
@@ -76,7 +76,7 @@ module _ (s : Gathered) (query refusal room need marks : ℕ) where
   unfolding querySlicesOf
   roomy e =
       then-accepted (refuse (ltb room need) 7) _
-      (then-accepted (slicesOf (s .grid .axis-count) (min (s .shortest) query) refusal) _ (lower-accepted query-slices (s .grid .checked) e .0) .1)
+      (then-accepted (slicesOf (s .grid .axis-count) (min (s .shortest) query) refusal) _ (earlier-accepted query-slices (s .grid .checked) e .0) .1)
 
   pub has-room : IsAccepted (lentToQuery s query refusal room need marks) → need ≤ room
   has-room e = ltb-false room need (refuse-accepted _ 7 (roomy e .0))
@@ -86,4 +86,4 @@ module _ (s : Gathered) (query refusal room need marks : ℕ) where
 
   -- the grid as it is lent is the grid itself
   pub whole-query : IsAccepted (lentToQuery s query refusal room need marks) → s .grid ≡ lentToQuery s query refusal room need marks
-  whole-query e = whole (s .grid) (lower-accepted query-slices (s .grid .checked) e .0)
+  whole-query e = whole (s .grid) (earlier-accepted query-slices (s .grid .checked) e .0)

@@ -5,3 +5,4 @@ pub mod Read
 pub mod Owed
 pub mod Unmarked
 pub mod Gathered
+pub mod Relied

@@ -12,7 +12,6 @@ use cases_calls::rectilinear_refused_order;
 use cases_calls::refused_batch;
 use cases_calls::regular;
 use cases_calls::regular_from;
-use cases_calls::taken;
 use cases_calls::told;
 use cases_calls::walk;
 use cases_calls::with_buffers;
@@ -103,24 +102,6 @@ fn not_numbers(s: Score) -> Score {
         nan,
         nan,
         b"rectilinear, all values NaN",
-    )
-}
-
-// Refusal 6, on two axes of four entries.
-fn rectilinear_order(s: Score, z: &[f64]) -> Score {
-    let nan = 0.0 / 0.0;
-    let below = [0.0, 1.0, 2.0, 3.0, 0.0, 1.0, 2.0, 1.0];
-    let nan_2 = [0.0, 1.0, nan, 3.0, 0.0, 1.0, 2.0, 1.0];
-    let same = [0.0, 1.0, 1.0, 1.0, 0.0, 1.0, 2.0, 2.0];
-    let s = rectilinear_refused_order(s, below, 6, 1, b"rectilinear, 6: entry 3 below on axis 1");
-    let s = rectilinear_refused_order(s, nan_2, 6, 0, b"rectilinear, 6: entry 2 NaN");
-    let vals = part(z, 0, 16);
-    taken(
-        s,
-        rectilinear(2, 4, 4, 0),
-        &same,
-        vals,
-        b"rectilinear, equal neighbours after entry 1",
     )
 }
 
@@ -594,7 +575,6 @@ fn all(s: Score, z: &[f64]) -> Score {
     let s = cubes(s);
     let s = not_numbers(s);
     let s = refusals(s);
-    let s = rectilinear_order(s, z);
     let s = regular_batches(s, z);
     let s = rectilinear_batches(s, z);
     let s = unplaceable(s, z);

@@ -110,7 +110,27 @@ fn made(g: GroupF32, axes: &[f32], vals: &[f32], number: u64, axis: u64) -> Tall
     same_outcome(clear(), NEW, number, 0, axis, call_new(g, axes, vals))
 }
 
-// Every one of the six calls gives the refusal, and the buffers keep their contents.
+// Every one of the six calls gives the refusal, whatever is asked, and the buffers keep their contents.
+pub fn refused_asked(
+    s: Score,
+    g: GroupF32,
+    axes: &[f32],
+    vals: &[f32],
+    x: [f32; 4],
+    queries: &[f32],
+    number: u64,
+    axis: u64,
+    name: &[u8],
+) -> Score {
+    let before = marked_words();
+    let t = made(g, axes, vals, number, axis);
+    let t = same_single(t, g, axes, vals, x, refusal(number, axis));
+    let w = walk(t, number, 0, axis);
+    let t = run_batches(g, axes, vals, queries, w, &before, &before);
+    told(s, t, name)
+}
+
+// The same, asked at 0.5.
 fn refused(
     s: Score,
     g: GroupF32,
@@ -120,12 +140,7 @@ fn refused(
     axis: u64,
     name: &[u8],
 ) -> Score {
-    let before = marked_words();
-    let t = made(g, axes, vals, number, axis);
-    let t = same_single(t, g, axes, vals, [0.5; 4], refusal(number, axis));
-    let w = walk(t, number, 0, axis);
-    let t = run_batches(g, axes, vals, &[0.5; 4], w, &before, &before);
-    told(s, t, name)
+    refused_asked(s, g, axes, vals, [0.5; 4], &[0.5; 4], number, axis, name)
 }
 
 // Both batches are refused by check 7, and the buffers keep their contents.
@@ -298,7 +313,7 @@ pub fn rectilinear_taken(s: Score, count: usize, name: &[u8]) -> Score {
     taken(s, g, entries, entries, name)
 }
 
-// Refusals 5 and 6, on two axes of four entries.
+// Refusals 5, 6 and 10, on two axes of four entries.
 pub fn rectilinear_refused_order(
     s: Score,
     entries: [f32; 8],

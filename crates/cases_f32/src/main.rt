@@ -11,11 +11,9 @@ use cases_calls_f32::held;
 use cases_calls_f32::kept;
 use cases_calls_f32::not_placed;
 use cases_calls_f32::rectilinear;
-use cases_calls_f32::rectilinear_refused_order;
 use cases_calls_f32::refused_batch;
 use cases_calls_f32::regular;
 use cases_calls_f32::regular_from;
-use cases_calls_f32::taken;
 use cases_calls_f32::with_buffers;
 use cases_calls_f32::zeros;
 use cases_marks_f32::marked_cases;
@@ -94,24 +92,6 @@ fn not_numbers(s: Score) -> Score {
         nan,
         nan,
         b"rectilinear, all values NaN",
-    )
-}
-
-// Refusal 6, on two axes of four entries.
-fn rectilinear_order(s: Score, z: &[f32]) -> Score {
-    let nan = 0.0 / 0.0;
-    let below = [0.0, 1.0, 2.0, 3.0, 0.0, 1.0, 2.0, 1.0];
-    let nan_2 = [0.0, 1.0, nan, 3.0, 0.0, 1.0, 2.0, 1.0];
-    let same = [0.0, 1.0, 1.0, 1.0, 0.0, 1.0, 2.0, 2.0];
-    let s = rectilinear_refused_order(s, below, 6, 1, b"rectilinear, 6: entry 3 below on axis 1");
-    let s = rectilinear_refused_order(s, nan_2, 6, 0, b"rectilinear, 6: entry 2 NaN");
-    let vals = part(z, 0, 16);
-    taken(
-        s,
-        rectilinear(2, 4, 4, 0),
-        &same,
-        vals,
-        b"rectilinear, equal neighbours after entry 1",
     )
 }
 
@@ -575,7 +555,6 @@ fn all(s: Score, z: &[f32]) -> Score {
     let s = cubes(s);
     let s = not_numbers(s);
     let s = refusals(s);
-    let s = rectilinear_order(s, z);
     let s = regular_batches(s, z);
     let s = rectilinear_batches(s, z);
     let s = unplaceable(s, z);

@@ -1,11 +1,20 @@
 // f32: written by tools/width from crates/cases_refusals/src/lib.rt; what has no float is called there.
-// The cases of refusals 1 to 5 that need no grid of their own, on both kinds, with what is easily missed of their order.
+// The cases of refusals 1 to 6 and 10 that need no grid of their own, on both kinds, with what is easily missed of their order.
 use cases_calls::Score;
+use cases_calls_f32::answered;
+use cases_calls_f32::held;
+use cases_calls_f32::rectilinear;
 use cases_calls_f32::rectilinear_refused;
 use cases_calls_f32::rectilinear_refused_order;
 use cases_calls_f32::rectilinear_taken;
+use cases_calls_f32::refused_asked;
+use cases_calls_f32::regular_from;
 use cases_calls_f32::regular_refused;
 use cases_calls_f32::regular_taken;
+use cases_calls_f32::taken;
+use cases_calls_f32::with_buffers;
+use harness_words_f32::bits_of;
+use harness_words_f32::float_of;
 
 // Counts 3 | 4 and 4,096 | 4,097.
 fn regular_counts(s: Score) -> Score {
@@ -167,6 +176,103 @@ fn rectilinear_rising(s: Score) -> Score {
     rectilinear_refused_order(s, nan_1, 5, 0, b"rectilinear, 5: entry 1 NaN")
 }
 
+// Refusal 6.
+fn rectilinear_order(s: Score) -> Score {
+    let nan = 0.0 / 0.0;
+    let below = [0.0, 1.0, 2.0, 3.0, 0.0, 1.0, 2.0, 1.0];
+    let nan_2 = [0.0, 1.0, nan, 3.0, 0.0, 1.0, 2.0, 1.0];
+    let s = rectilinear_refused_order(s, below, 6, 1, b"rectilinear, 6: entry 3 below on axis 1");
+    rectilinear_refused_order(s, nan_2, 6, 0, b"rectilinear, 6: entry 2 NaN")
+}
+
+// Refusal 10: equal neighbours after entry 1, equal as numbers.
+fn rectilinear_flat(s: Score) -> Score {
+    let infinity = 1.0 / 0.0;
+    let same = [0.0, 1.0, 1.0, 2.0, 0.0, 1.0, 2.0, 3.0];
+    let last = [0.0, 1.0, 2.0, 3.0, 0.0, 1.0, 2.0, 2.0];
+    let both = [0.0, 1.0, 2.0, 2.0, 0.0, 1.0, 1.0, 2.0];
+    let zeros = [-1.0, -0.0, 0.0, 1.0, 0.0, 1.0, 2.0, 3.0];
+    let zeros_back = [-1.0, 0.0, -0.0, 1.0, 0.0, 1.0, 2.0, 3.0];
+    let infinite = [0.0, 1.0, infinity, infinity, 0.0, 1.0, 2.0, 3.0];
+    let s = rectilinear_refused_order(s, same, 10, 0, b"rectilinear, 10: entry 2 = entry 1");
+    let s = rectilinear_refused_order(s, last, 10, 1, b"rectilinear, 10: last pair of axis 1");
+    let s = rectilinear_refused_order(s, both, 10, 0, b"rectilinear, 10: lowest of two axes");
+    let s = rectilinear_refused_order(s, zeros, 10, 0, b"rectilinear, 10: -0, +0");
+    let s = rectilinear_refused_order(s, zeros_back, 10, 0, b"rectilinear, 10: +0, -0");
+    rectilinear_refused_order(s, infinite, 10, 0, b"rectilinear, 10: two infinities")
+}
+
+// Its order: 5 and 6 on any axis come before it, 7 and 9 after it.
+fn flat_in_order(s: Score) -> Score {
+    let nan = 0.0 / 0.0;
+    let zero = [-0.0, 0.0, 1.0, 2.0, 0.0, 1.0, 1.0, 2.0];
+    let start = [0.0, 1.0, 1.0, 2.0, 0.0, 0.0, 1.0, 2.0];
+    let below = [0.0, 1.0, 1.0, 2.0, 0.0, 1.0, 2.0, 1.0];
+    let s = rectilinear_refused_order(s, zero, 5, 0, b"rectilinear, 5: -0, +0 at entries 0, 1");
+    let s = rectilinear_refused_order(s, start, 5, 1, b"rectilinear, 5 before 10");
+    let s = rectilinear_refused_order(s, below, 6, 1, b"rectilinear, 6 before 10");
+    let g = rectilinear(1, 4, 0, 0);
+    let flat = [0.0, 1.0, 2.0, 2.0];
+    let vals = [0.5; 4];
+    let s = refused_asked(
+        s,
+        with_buffers(g, 2, 2),
+        &flat,
+        &vals,
+        [0.5; 4],
+        &[0.5; 3],
+        10,
+        0,
+        b"rectilinear, 10 before 7",
+    );
+    refused_asked(
+        s,
+        with_buffers(held(g), 4, 4),
+        &flat,
+        &vals,
+        [nan; 4],
+        &[nan; 4],
+        10,
+        0,
+        b"rectilinear, held: 10 before 9",
+    )
+}
+
+// The number after 1.
+fn above_one() -> f32 {
+    float_of(0x3F80_0001)
+}
+
+// Neighbours that are one unit apart rise: the node is answered with its value, and the slope is one over the gap.
+fn one_unit_apart(s: Score) -> Score {
+    let x = above_one();
+    let gap = x - 1.0;
+    let entries = [1.0, x, x + gap, x + gap + gap];
+    let vals = [0.0, 1.0, 2.0, 3.0];
+    answered(
+        s,
+        rectilinear(1, 4, 0, 0),
+        &entries,
+        &vals,
+        x,
+        1,
+        bits_of(1.0),
+        bits_of(1.0 / gap),
+        b"rectilinear, one unit apart",
+    )
+}
+
+// A regular grid has no 10, though its nodes coincide as rounded.
+fn coinciding_nodes(s: Score) -> Score {
+    taken(
+        s,
+        regular_from(10000000000000000.0, 0.1),
+        &[0.0; 4],
+        &[0.0; 4],
+        b"regular, nodes that coincide",
+    )
+}
+
 // All of them.
 pub fn refusals(s: Score) -> Score {
     let s = regular_counts(s);
@@ -175,5 +281,10 @@ pub fn refusals(s: Score) -> Score {
     let s = regular_steps(s);
     let s = rectilinear_axes(s);
     let s = rectilinear_sizes(s);
-    rectilinear_rising(s)
+    let s = rectilinear_rising(s);
+    let s = rectilinear_order(s);
+    let s = rectilinear_flat(s);
+    let s = flat_in_order(s);
+    let s = one_unit_apart(s);
+    coinciding_nodes(s)
 }

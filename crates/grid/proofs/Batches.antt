@@ -345,7 +345,7 @@ module _ (f : Format) (g : Grid) (queries buffer : List Float) where
   pub gradient-checked : (checked r : Outcome) → checked ≡ g .checked → r ≡ (checked then checkBatch (g .axis-count) gradientCount (length queries) (g .axis-count * gradientCount) (length buffer)) → gradientChecks f g queries buffer ≡ r
   gradient-checked checked r e k = sym (k ∙ ap (λ (o : Outcome). o then checkBatch (g .axis-count) gradientCount (length queries) (g .axis-count * gradientCount) (length buffer)) e)
 
-  -- refusals 1 to 7
+  -- refused by a check of the grid, or by 7
   pub interp-unwritten : (number query axis : ℕ) → valueChecks f g queries buffer ≡ Refused number query axis → interpBuffer f g queries buffer ≡ buffer
   interp-unwritten number query axis e = refused-buffer (valueChecks f g queries buffer) number query axis buffer _ e
 

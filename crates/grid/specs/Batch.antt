@@ -33,7 +33,7 @@ abbrev pub runFrom : (ℕ → Found) → (ℕ → List Placed → List Float →
 runFrom found write i zero buffer = buffer
 runFrom found write i (suc left) buffer = cases (found i) (λ number axis. buffer) (λ ps. runFrom found write (suc i) left (write i ps buffer))
 
--- refusals 1 to 7 write nothing
+-- refused by a check of the grid, or by 7, nothing is written
 abbrev pub bufferOf : Outcome → List Float → List Float → List Float
 bufferOf (Refused number query axis) before after = before
 bufferOf Accepted before after = after

@@ -115,7 +115,7 @@ componentsOf f counts vals ps = componentsFrom f counts vals ps 0 ps
 abbrev pub foundComponents : Format → List ℕ → List Float → Found → List Float
 foundComponents f counts vals found = cases found (λ number axis. []) (componentsOf f counts vals)
 
--- What a grid is to its queries: the outcome of its checks 1 to 6, its axis count, its axes and its values.
+-- What a grid is to its queries: the outcome of its own checks, its axis count, its axes and its values.
 pub record Grid : Type 0 where
   pub checked : Outcome
   pub axis-count : ℕ

@@ -42,7 +42,7 @@ pow-val f b h =
 under : (l a m : ℕ) → l - a < l + suc m
 under l a m = omega arith
 
-inv-val : (f : Format) (l : ℕ) → l ≤ low f → HasValue (round f false 1 (2 ^ l)) false 1 (2 ^ l)
+pub inv-val : (f : Format) (l : ℕ) → l ≤ low f → HasValue (round f false 1 (2 ^ l)) false 1 (2 ^ l)
 inv-val f l h =
     round-exact f false 1 (2 ^ l) 1 (low f - l) (pow-pos l) (one-lt f)
     (subst (λ (x : ℕ). x < 2 ^ (low f + suc (emax f))) (sym (one-mul (2 ^ (low f - l)))) (pow-lt (under (low f) l (emax f))))

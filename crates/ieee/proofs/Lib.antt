@@ -5,6 +5,7 @@ pub mod ZeroOne
 pub mod Cancel
 pub mod Bound
 pub mod Gap
+pub mod Rise
 pub mod Multiple
 pub mod Rank
 pub mod Order

@@ -10,9 +10,10 @@ use lib.Ieee.{Float, Format}
 use Rattle.multicubic.specs.declared.AxesLength.the-variants.{Joined}
 use Rattle.multicubic.specs.declared.EdgeMode.{EdgeMode}
 use Rattle.multicubic.specs.declared.Outcome.the-variants.{Accepted}
-use Rattle.multicubic.specs.Grid.{lowest, sum, sizeChecks}
+use Rattle.multicubic.specs.Grid.{sum, sizeChecks}
 use Rattle.multicubic.proofs.Passed.{then-accepted}
-use Rattle.rectilinear_order.specs.Grid.{axesOf, notRising, disorder, orderChecks}
+use Rattle.rectilinear_order.specs.Grid.{axesOf, disorder, orderChecks}
+use Rattle.rectilinear_order.proofs.Strict.{six-passed}
 use Rattle.rectilinear_axis.proofs.Search.{entries-rise}
 use Rattle.grid.specs.Query.{GridAxis, hold, outcomeOf, markAnswer}
 use Rattle.grid.specs.Nodes.{All}
@@ -39,7 +40,7 @@ module _ (f : Format) (n : ℕ) (counts : List ℕ) (joined vals : List Float) (
       let parts = axesOf (take n counts) joined in
       let checked = then-accepted (sizeChecks n counts (length vals) (Joined (length joined))) (orderChecks parts) e in
       ends-of f mode (take n counts) joined (joined-length n counts joined (length vals) e) (all-long (take n counts) (passed n counts joined (length vals) e .long))
-      (all-sound 6 disorder 0 parts (then-accepted (lowest 5 notRising 0 parts) (lowest 6 disorder 0 parts) (checked .1) .1))
+      (all-sound 6 disorder 0 parts (six-passed parts (checked .1)))
 
   pub held-once : All (λ (g : GridAxis). (given : Float) → hold g (hold g given) ≡ hold g given) (axesIn f mode n counts joined)
   held-once = holds-once (axesIn f mode n counts joined) ends

@@ -1,7 +1,7 @@
--- The premises can be met on two axes: 0, 1, 2, 4, 7 and 1, 2, 4, 7. The query -0, 4 is at node 0, 2.
+-- The premises can be met on two axes: 0, 1, 2, 4, 7 and 1, 2, 4, 7. The query -0, 4 is at node 0, 2. And what a flat axis comes before.
 use mathlib.Core.Path.{_≡_, refl}
 use mathlib.Core.Bool.{Bool, true, false, _&&_}
-use mathlib.Core.List.{List, [], _∷_}
+use mathlib.Core.List.{List, [], _∷_, _++_}
 use Prim.Native.Nat.{ℕ, zero, suc, _<_}
 use native.Mathlib.Omega.{arith}
 use lib.IntN.{pos, negsuc}
@@ -12,12 +12,13 @@ use lib.Ieee.Fits.{and-l, and-r}
 use lib.Ieee.Scale.{finite}
 use Rattle.multicubic.specs.declared.EdgeMode.{EdgeMode}
 use Rattle.multicubic.specs.declared.EdgeMode.the-variants.{Cubic, Straight, Held}
-use Rattle.multicubic.specs.declared.Outcome.the-variants.{Accepted}
+use Rattle.multicubic.specs.declared.Outcome.the-variants.{Accepted, Refused}
 use Rattle.multicubic.specs.declared.Answer.the-variants.{Value}
 use Rattle.multicubic.specs.Grid.{sizeChecks}
-use Rattle.rectilinear_order.specs.Grid.{axesOf, notRising, disorder}
+use Rattle.rectilinear_order.specs.Grid.{axesOf, notRising, disorder, flat}
 use Rattle.rectilinear_axis.specs.Nodes.{Premises}
-use Rattle.grid.specs.Query.{valueAnswer}
+use Rattle.grid.specs.Query.{outcomeOf, valueAnswer}
+use Rattle.grid.specs.Batch.{gradOutcome}
 use Rattle.grid.specs.Nodes.{AtIndex, stored}
 use Rattle.grid.proofs.Decide.{each, all-fit}
 use Rattle.rectilinear_query.specs.Grid.{gridOf, AllPremises}
@@ -57,7 +58,7 @@ premises binary32 = (bounded binary32 (take 5 joined) tt tt, (bounded binary32 (
 premises binary64 = (bounded binary64 (take 5 joined) tt tt, (bounded binary64 (take 4 (lib.ListN.drop 5 joined)) tt tt, tt))
 
 taken : (f : Format) (mode : EdgeMode) → gridOf f 2 counts joined vals mode .checked ≡ Accepted
-unfolding sizeChecks notRising disorder lt isNan
+unfolding sizeChecks notRising disorder flat lt eq isNan
 taken f mode = refl
 
 -- in every setting
@@ -71,3 +72,15 @@ pub met : (f : Format) (mode : EdgeMode) → (v : Float) × (valueAnswer f (grid
 unfolding fits
 met binary32 mode = node binary32 2 counts joined (each (fits binary32) joined tt) (premises binary32) (0 ∷ 2 ∷ []) (λ a. getD query a nan) (all-fit binary32 query tt) vals mode (taken binary32 mode) (each finite vals tt) (each (fits binary32) vals tt) (at binary32 mode)
 met binary64 mode = node binary64 2 counts joined (each (fits binary64) joined tt) (premises binary64) (0 ∷ 2 ∷ []) (λ a. getD query a nan) (all-fit binary64 query tt) vals mode (taken binary64 mode) (each finite vals tt) (each (fits binary64) vals tt) (at binary64 mode)
+
+-- ---- axis 1 is flat at its last pair: 10 comes before 7, with a buffer that fits no number of queries, and before 9, with a query that is all NaN
+abbrev flatJoined : List Float
+flatJoined = take 8 joined ++ fin false 1 (pos 2) ∷ []
+
+pub ten-before-seven : (f : Format) (mode : EdgeMode) → gradOutcome f (gridOf f 2 counts flatJoined vals mode) [] (nan ∷ []) ≡ Refused 10 0 1
+unfolding sizeChecks notRising disorder flat lt eq isNan
+ten-before-seven f mode = refl
+
+pub ten-before-nine : (f : Format) (mode : EdgeMode) → outcomeOf (gridOf f 2 counts flatJoined vals mode) (λ a. nan) ≡ Refused 10 0 1
+unfolding sizeChecks notRising disorder flat lt eq isNan
+ten-before-nine f mode = refl

@@ -13,7 +13,7 @@ use Rattle.ieee.proofs.Rank.{lt→rank, rank→lt, same-rank}
 use Rattle.ieee.proofs.Gap.{Apart, gap-apart}
 use Rattle.rectilinear_order.specs.Grid.{disorder}
 use Rattle.rectilinear_axis.specs.Place.{countBelow}
-use Rattle.rectilinear_order.proofs.Order.{not-true, rises}
+use Rattle.rectilinear_order.proofs.Order.{not-true, all-up}
 use Rattle.rectilinear_axis.proofs.Search.{Below, NotBelow, all-to, none-from, count-is, entries-rise}
 use Rattle.rectilinear_axis.proofs.Blocks.{Held, Gap}
 
@@ -30,7 +30,7 @@ module _ (f : Format) (g : List Float) (four : 4 ≤ length g) (held : (k : ℕ)
   entry (suc k) h = (apart k h .right, held (suc k) h)
 
   in-order : disorder g ≡ false
-  in-order = rises g (omega arith) (λ k h. lt→le (getD g k nan) (getD g (suc k) nan) (apart k h .rises))
+  in-order = all-up g (omega arith) (λ k h. lt→le (getD g k nan) (getD g (suc k) nan) (apart k h .rises))
 
   pub nodes-rise : (i j : ℕ) → i ≤ j → j < length g → lt (getD g j nan) (getD g i nan) ≡ false
   nodes-rise i j l h = entries-rise g in-order i j l h

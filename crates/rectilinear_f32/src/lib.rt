@@ -33,7 +33,7 @@ use rectilinear_query_f32::marks_of;
 use rectilinear_query_f32::replaced_at;
 use reduction::strides;
 
-// Takes a grid or turns it away: checks 1 to 6. The axes are joined one after the other.
+// Takes a grid or turns it away: checks 1 to 6 and 10. The axes are joined one after the other.
 pub fn new(axis_count: usize, counts: [usize; 4], axes: &[f32], vals: &[f32]) -> Outcome
     ensures { λ r. ⌜ r ≡ checksOf «axis_count» counts (now (axes .entry)) (length (now (vals .entry))) ⌝ }
     ensures { λ r. ⌜ Says r (checksOf «axis_count» counts (now (axes .entry)) (length (now (vals .entry)))) ⌝ }

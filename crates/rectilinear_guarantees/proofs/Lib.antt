@@ -1,2 +1,3 @@
--- What a rectilinear grid supplies to the laws of `guarantees`.
+-- What a rectilinear grid supplies to the laws of `guarantees`, and what may be relied on where it is taken.
 pub mod Supplied
+pub mod Relied

@@ -1,13 +1,17 @@
 // Section 8 said of the calls on a rectilinear grid: two tables on the same axes, each with its own values and setting, asked alone and in a batch.
+// And clause 2.6: what a grid that is taken is relied on for.
 ghost use mathlib.Core.Path.{_≡_};
-ghost use lib.ListN.{take};
+ghost use lib.ListN.{length, take};
 ghost use lib.Ieee.{binary64};
 ghost use Rattle.multicubic.specs.Same.{asAnswer};
+ghost use Rattle.multicubic.specs.declared.AxesLength.the-variants.{Joined};
 ghost use Rattle.multicubic.specs.declared.EdgeMode.the-variants.{Held};
+ghost use Rattle.multicubic.specs.declared.Outcome.the-variants.{Accepted};
+ghost use Rattle.multicubic.specs.Grid.{sizeChecks};
 ghost use Rattle.grid.specs.Query.{at, valueAnswer, markAnswer};
 ghost use Rattle.grid.specs.Batch.{interpOutcome, interpBuffer};
-ghost use Rattle.rectilinear_order.specs.Grid.{axesOf};
-ghost use Rattle.rectilinear_query.specs.Grid.{gridOf, AllPremises};
+ghost use Rattle.rectilinear_order.specs.Grid.{axesOf, Rising, GapsAbove};
+ghost use Rattle.rectilinear_query.specs.Grid.{checksOf, gridOf, AllPremises};
 ghost use Rattle.guarantees.specs.Marked.{UnmarkedAtNode};
 ghost use Rattle.guarantees.specs.Statements.{AnswersOf, BuffersOf, HeldEdge, HeldInBatch, OwedAlone, OwedInBatch};
 use guarantees::TwoTables;
@@ -153,4 +157,15 @@ pub fn unmarked_at_node(
     ensures { λ r. ⌜ r .marks ≡ markAnswer (gridOf binary64 «axis_count» counts (now (axes .entry)) (now (vals .entry)) mode) (at x) ⌝ }
 {
     rectilinear::interp_one(axis_count, counts, axes, vals, mode, x)
+}
+
+// Clause 2.6: where `new` takes a grid, every axis rises strictly, and no gap is zero; and a grid of the right sizes whose axes rise strictly is taken.
+pub fn rises(axis_count: usize, counts: [usize; 4], axes: &[f64], vals: &[f64]) -> Outcome
+    ensures { λ r. ⌜ r ≡ checksOf «axis_count» counts (now (axes .entry)) (length (now (vals .entry))) ⌝ }
+    ensures { λ r. ⌜ (r ≡ Accepted → Rising (axesOf (take «axis_count» counts) (now (axes .entry)))) ⌝ }
+    ensures { λ r. ⌜ (r ≡ Accepted → GapsAbove binary64 (axesOf (take «axis_count» counts) (now (axes .entry)))) ⌝ }
+    ensures { λ r. ⌜ (sizeChecks «axis_count» counts (length (now (vals .entry))) (Joined (length (now (axes .entry)))) ≡ Accepted
+        → Rising (axesOf (take «axis_count» counts) (now (axes .entry))) → r ≡ Accepted) ⌝ }
+{
+    rectilinear::new(axis_count, counts, axes, vals)
 }

@@ -4,7 +4,7 @@ ghost use mathlib.Core.Path.{_≡_};
 ghost use lib.ListN.{length};
 ghost use lib.Ieee.{binary64};
 ghost use Rattle.multicubic.specs.Same.{asAnswer};
-ghost use Rattle.slices.specs.Slices.{lower};
+ghost use Rattle.slices.specs.Slices.{earlier};
 ghost use Rattle.slices.specs.Lent.{lent};
 ghost use Rattle.slices.specs.Internal.{PlacesOn, ValueOn, GradientOn, InterpOn, InterpGradOn};
 ghost use Rattle.rectilinear_query.specs.Grid.{checksOf, gridOf};
@@ -18,7 +18,7 @@ use multicubic::PlaceAnswer;
 use multicubic::answered;
 use multicubic::nowhere;
 use multicubic::unmarked;
-use slices::lower;
+use slices::earlier;
 
 // The refusal of the slices, or the grid's own.
 pub fn new(
@@ -28,9 +28,9 @@ pub fn new(
     axes: &[f64],
     vals: &[f64],
 ) -> Outcome
-    ensures { λ r. ⌜ r ≡ lower slices (checksOf «axis_count» counts (now (axes .entry)) (length (now (vals .entry)))) ⌝ }
+    ensures { λ r. ⌜ r ≡ earlier slices (checksOf «axis_count» counts (now (axes .entry)) (length (now (vals .entry)))) ⌝ }
 {
-    lower(slices, rectilinear::new(axis_count, counts, axes, vals))
+    earlier(slices, rectilinear::new(axis_count, counts, axes, vals))
 }
 
 // The place of a query.

@@ -1,3 +1,3 @@
--- Checks 5 and 6 of a rectilinear grid.
+-- Checks 5, 6 and 10 of a rectilinear grid.
 pub mod Grid
 pub mod Internal

@@ -14,10 +14,11 @@ use Rattle.multicubic.specs.declared.EdgeMode.{EdgeMode}
 use Rattle.multicubic.specs.declared.Loc.the-variants.{At}
 use Rattle.multicubic.specs.declared.Outcome.the-variants.{Accepted}
 use Rattle.multicubic.specs.declared.Place.{Place}
-use Rattle.multicubic.specs.Grid.{lowest, sum, anyOver, sizeChecks}
+use Rattle.multicubic.specs.Grid.{sum, anyOver, sizeChecks}
 use Rattle.multicubic.proofs.Numbers.{placed-number}
 use Rattle.multicubic.proofs.Passed.{Passed, then-accepted, lowest-accepted}
-use Rattle.rectilinear_order.specs.Grid.{axesOf, notRising, disorder, orderChecks}
+use Rattle.rectilinear_order.specs.Grid.{axesOf, disorder, orderChecks}
+use Rattle.rectilinear_order.proofs.Strict.{six-passed}
 use Rattle.rectilinear_axis.specs.Place.{countBelow}
 use Rattle.reduction.specs.Value.{stridesOf}
 use Rattle.grid.specs.Query.{countsOf as gridCounts}
@@ -131,8 +132,7 @@ module _ (f : Format) (mode : EdgeMode) {n : ℕ} {counts : List ℕ} {joined : 
         let parts = axesOf (take n counts) joined in
         let many : length parts ≡ n = parts-length (take n counts) joined ∙ length-take-le n counts (omega arith) in
         let checked = then-accepted (sizeChecks n counts (taken .values) (Joined (length joined))) (orderChecks parts) (taken .checked) in
-        let sound = then-accepted (lowest 5 notRising 0 parts) (lowest 6 disorder 0 parts) (checked .1) .1 in
-        sym (part-is disorder (disorder [])) ∙ List·getD-map disorder parts j [] ∙ lowest-accepted 6 disorder 0 parts [] sound j (omega arith)
+        sym (part-is disorder (disorder [])) ∙ List·getD-map disorder parts j [] ∙ lowest-accepted 6 disorder 0 parts [] (six-passed parts (checked .1)) j (omega arith)
 
     -- a place's block lies on it
     pub room-on : (straight : Bool) (x : Float) (p : Place) → At p ≡ gridAxis f straight part .loc x → p .origin + 4 ≤ length part

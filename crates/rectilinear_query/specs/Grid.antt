@@ -15,7 +15,7 @@ use Rattle.rectilinear_axis.specs.Weights.{weightsAt, derivativesAt}
 use Rattle.grid.specs.Query.{GridAxis, edgeAxis, Grid}
 use Rattle.grid.specs.Nodes.{All}
 
--- checks 1 to 6
+-- checks 1 to 6, then 10
 abbrev pub checksOf : ℕ → List ℕ → List Float → ℕ → Outcome
 checksOf n counts joined values = sizeChecks n counts values (Joined (length joined)) then orderChecks (axesOf (take n counts) joined)
 

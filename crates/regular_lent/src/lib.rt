@@ -4,7 +4,7 @@ ghost use mathlib.Core.Path.{_≡_};
 ghost use lib.ListN.{length};
 ghost use lib.Ieee.{binary64};
 ghost use Rattle.multicubic.specs.Same.{asAnswer};
-ghost use Rattle.slices.specs.Slices.{lower};
+ghost use Rattle.slices.specs.Slices.{earlier};
 ghost use Rattle.slices.specs.Lent.{lent};
 ghost use Rattle.slices.specs.Internal.{PlacesOn, ValueOn, GradientOn, InterpOn, InterpGradOn};
 ghost use Rattle.regular_query.specs.Grid.{checksOf, gridOf};
@@ -19,13 +19,13 @@ use multicubic::PlaceAnswer;
 use multicubic::answered;
 use multicubic::nowhere;
 use multicubic::unmarked;
-use slices::lower;
+use slices::earlier;
 
 // The refusal of the slices, or the grid's own.
 pub fn new(slices: Outcome, axis_count: usize, axes: [Axis; 4], vals: &[f64]) -> Outcome
-    ensures { λ r. ⌜ r ≡ lower slices (checksOf «axis_count» axes (length (now (vals .entry)))) ⌝ }
+    ensures { λ r. ⌜ r ≡ earlier slices (checksOf «axis_count» axes (length (now (vals .entry)))) ⌝ }
 {
-    lower(slices, regular::new(axis_count, axes, vals))
+    earlier(slices, regular::new(axis_count, axes, vals))
 }
 
 // The place of a query.

@@ -4,7 +4,7 @@
 ghost use mathlib.Core.Path.{_≡_};
 ghost use lib.ListN.{length};
 ghost use lib.Ieee.{binary32};
-ghost use Rattle.slices.specs.Slices.{lower};
+ghost use Rattle.slices.specs.Slices.{earlier};
 ghost use Rattle.slices.specs.Lent.{lent};
 ghost use Rattle.slices.specs.Internal.{PlacesOn, ValueOn, GradientOn, InterpOn, InterpGradOn};
 ghost use Rattle.regular_query.specs.Grid.{checksOf, gridOf};
@@ -20,13 +20,13 @@ use multicubic_f32::GradientAnswerF32;
 use multicubic_f32::MarkedAnswerF32;
 use multicubic_f32::MarkedGradientF32;
 use multicubic_f32::answered;
-use slices::lower;
+use slices::earlier;
 
 // The refusal of the slices, or the grid's own.
 pub fn new(slices: Outcome, axis_count: usize, axes: [AxisF32; 4], vals: &[f32]) -> Outcome
-    ensures { λ r. ⌜ r ≡ lower slices (checksOf «axis_count» (asAxes axes) (length (now (vals .entry)))) ⌝ }
+    ensures { λ r. ⌜ r ≡ earlier slices (checksOf «axis_count» (asAxes axes) (length (now (vals .entry)))) ⌝ }
 {
-    lower(slices, regular_f32::new(axis_count, axes, vals))
+    earlier(slices, regular_f32::new(axis_count, axes, vals))
 }
 
 // The place of a query.

@@ -23,7 +23,7 @@ notRising a = not (lt zero (a .step))
 abbrev pub countsOf : List Axis → List ℕ
 countsOf axes = map (λ (a : Axis). a .count) axes
 
--- checks 1 to 5; there is no 6 on a regular grid
+-- checks 1 to 5; a regular grid has no 6 and no 10
 abbrev pub checksOf : ℕ → List Axis → ℕ → Outcome
 checksOf n axes values = sizeChecks n (countsOf axes) values Regular then lowest 5 notRising 0 (take n axes)
 

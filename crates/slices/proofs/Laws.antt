@@ -1,15 +1,18 @@
 -- Entries that are there, settings by their numbers, and checks in their order.
 use mathlib.Core.Path.{_≡_, refl, sym, ap, _∙_}
+use mathlib.Core.Bool.{Bool, true, false}
+use mathlib.Core.Logic.{_⊎_, inl, inr}
 use mathlib.Core.List.{List, [], _∷_}
 use Prim.Native.Nat.{ℕ, zero, suc, _<_, _≤_, min}
 use native.Mathlib.Omega.{arith}
-use borrow.Author.Tests.{lt-ltb, le-ltb, ne-eqb}
+use borrow.Author.Tests.{lt-ltb, le-ltb, ne-eqb, eq-eqb}
+use lib.Dec.{ltb}
 use lib.ListN.{length, getD}
 use Rattle.multicubic.specs.declared.EdgeMode.the-variants.{Cubic, Straight, Held}
 use Rattle.multicubic.specs.declared.Outcome.{Outcome}
 use Rattle.multicubic.specs.declared.Outcome.the-variants.{Accepted, Refused}
-use Rattle.multicubic.specs.Grid.{_then_}
-use Rattle.slices.specs.Slices.{modeOf, namedBy, slicesOf, querySlicesOf, lower}
+use Rattle.multicubic.specs.Grid.{refuse, _then_}
+use Rattle.slices.specs.Slices.{modeOf, namedBy, slicesOf, querySlicesOf, earlier}
 
 -- an entry that is there does not depend on what would stand past the end
 pub present : {A : Type 0} (xs : List A) (i : ℕ) (a b : A) → i < length xs → getD xs i a ≡ getD xs i b
@@ -35,10 +38,10 @@ module _ (mode : ℕ) where
   known shortest h = rw (le-ltb 2 mode h) refl
 
 -- a check that passes leaves the next to decide, one that refuses does not
-pub passes : {earlier : Outcome} (later : Outcome) → earlier ≡ Accepted → (earlier then later) ≡ later
+pub passes : {first : Outcome} (later : Outcome) → first ≡ Accepted → (first then later) ≡ later
 passes later e = ap (λ o. o then later) e
 
-pub stops : {earlier : Outcome} {number query axis : ℕ} (later : Outcome) → earlier ≡ Refused number query axis → (earlier then later) ≡ Refused number query axis
+pub stops : {first : Outcome} {number query axis : ℕ} (later : Outcome) → first ≡ Refused number query axis → (first then later) ≡ Refused number query axis
 stops later e = ap (λ o. o then later) e
 
 -- a single query's slices, where those that are read and `refusal` are long enough: the room is looked at, then the marks
@@ -55,10 +58,40 @@ module _ (n shortest query refusal room need marks : ℕ) (e : slicesOf n (min s
   unfolding querySlicesOf
   roomy h k = sym (passes _ e ∙ rw (le-ltb room need h, le-ltb marks n k) refl)
 
--- where both refuse, the lower number is told, at equal numbers the slices'
-module _ {slices checked : Outcome} {k kq ka l lq la : ℕ} (s : slices ≡ Refused l lq la) (g : checked ≡ Refused k kq ka) where
-  pub grid-first : k < l → Refused k kq ka ≡ lower slices checked
-  grid-first h = rw (s, g, lt-ltb k l h) refl
+-- slices are refused with 3 or 7 alone
+abbrev pub ThreeOrSeven : Outcome → Type 0
+ThreeOrSeven Accepted = Unit
+ThreeOrSeven (Refused number query axis) = (number ≡ 3) ⊎ (number ≡ 7)
 
-  pub slices-first : l ≤ k → Refused l lq la ≡ lower slices checked
-  slices-first h = rw (s, g, le-ltb k l h) refl
+either : (a b : Outcome) → ThreeOrSeven a → ThreeOrSeven b → ThreeOrSeven (a then b)
+either Accepted b p q = q
+either (Refused number query axis) b p q = p
+
+three : (fault : Bool) → ThreeOrSeven (refuse fault 3)
+three true = inl refl
+three false = tt
+
+seven : (fault : Bool) → ThreeOrSeven (refuse fault 7)
+seven true = inr refl
+seven false = tt
+
+pub slices-numbers : (n shortest refusal : ℕ) → ThreeOrSeven (slicesOf n shortest refusal)
+unfolding slicesOf
+slices-numbers n shortest refusal = either (refuse (ltb shortest n) 3) (refuse (ltb refusal 2) 7) (three (ltb shortest n)) (seven (ltb refusal 2))
+
+pub query-slices-numbers : (n shortest query refusal room need marks : ℕ) → ThreeOrSeven (querySlicesOf n shortest query refusal room need marks)
+unfolding querySlicesOf
+query-slices-numbers n shortest query refusal room need marks =
+    either (slicesOf n (min shortest query) refusal) (refuse (ltb room need) 7 then refuse (ltb marks n) 7) (slices-numbers n (min shortest query) refusal)
+    (either (refuse (ltb room need) 7) (refuse (ltb marks n) 7) (seven (ltb room need)) (seven (ltb marks n)))
+
+-- where both refuse, the check that comes first is told
+module _ {slices checked : Outcome} {k kq ka l lq la : ℕ} (s : slices ≡ Refused l lq la) (g : checked ≡ Refused k kq ka) where
+  pub grid-first : k < 3 → Refused k kq ka ≡ earlier slices checked
+  grid-first h = rw (s, g, lt-ltb k 3 h) refl
+
+  pub grid-before-seven : 3 ≤ k → l ≡ 7 → Refused k kq ka ≡ earlier slices checked
+  grid-before-seven h e = rw (s, g, le-ltb k 3 h, eq-eqb l 7 e) refl
+
+  pub slices-first : 3 ≤ k → (l ≡ 7 → ⊥) → Refused l lq la ≡ earlier slices checked
+  slices-first h e = rw (s, g, le-ltb k 3 h, ne-eqb l 7 e) refl

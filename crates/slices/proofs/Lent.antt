@@ -3,7 +3,6 @@ use mathlib.Core.Path.{_≡_, refl, sym, ap, _∙_}
 use mathlib.Core.Bool.{Bool, true, false, cond}
 use mathlib.Core.List.{List, [], _∷_}
 use Prim.Native.Nat.{ℕ}
-use lib.Dec.{ltb}
 use lib.Ieee.{Float, Format}
 use Rattle.ieee.specs.Numbers.{zero}
 use Rattle.multicubic.specs.declared.Outcome.{Outcome}
@@ -12,7 +11,7 @@ use Rattle.multicubic.specs.Answers.{answered}
 use Rattle.multicubic.specs.Internal.{fourNowhere, fourUnmarked}
 use Rattle.grid.specs.Query.{Grid, at, outcomeOf, valueAnswer, gradientAnswer, placeAnswer, markAnswer}
 use Rattle.grid.specs.Batch.{interpOutcome, interpBuffer, gradOutcome, gradBuffer}
-use Rattle.slices.specs.Slices.{lower}
+use Rattle.slices.specs.Slices.{gridFirst, earlier}
 use Rattle.slices.specs.Lent.{lent}
 use Rattle.slices.specs.Internal.{PlacesOn, ValueOn, GradientOn, InterpOn, InterpGradOn}
 
@@ -23,20 +22,20 @@ whole g e = λ i. lent (sym e i) g
 abbrev checkedBy : Outcome → Grid → Grid
 checkedBy outcome g = record { checked = outcome; axis-count = g .axis-count; axes = g .axes; vals = g .vals }
 
-lower-refuses : (k q a : ℕ) (o : Outcome) → (number query axis : ℕ) × (lower (Refused k q a) o ≡ Refused number query axis)
-lower-refuses k q a Accepted = (k, q, a, refl)
-lower-refuses k q a (Refused number query axis) = go (ltb number k)
+earlier-refuses : (k q a : ℕ) (o : Outcome) → (number query axis : ℕ) × (earlier (Refused k q a) o ≡ Refused number query axis)
+earlier-refuses k q a Accepted = (k, q, a, refl)
+earlier-refuses k q a (Refused number query axis) = go (gridFirst number k)
   where
     go : (b : Bool) → (m p d : ℕ) × (cond b (Refused number query axis) (Refused k q a) ≡ Refused m p d)
     go true = (number, query, axis, refl)
     go false = (k, q, a, refl)
 
-module _ {o slices : Outcome} {k q a : ℕ} (g : Grid) (p : o ≡ lower slices (g .checked)) (e : slices ≡ Refused k q a) where
+module _ {o slices : Outcome} {k q a : ℕ} (g : Grid) (p : o ≡ earlier slices (g .checked)) (e : slices ≡ Refused k q a) where
   -- what a call answers on every refused grid is its answer here
   refused : {X : Type 0} (call : Grid → X) (answer : Outcome → X) → ((number query axis : ℕ) → answer (Refused number query axis) ≡ call (checkedBy (Refused number query axis) g)) → answer o ≡ call (lent slices g)
   refused call answer each =
-      let l = lower-refuses k q a (g .checked) in
-      let r = ap (λ s. lower s (g .checked)) e ∙ l .3 in
+      let l = earlier-refuses k q a (g .checked) in
+      let r = ap (λ s. earlier s (g .checked)) e ∙ l .3 in
       ap answer (p ∙ r) ∙ each (l .0) (l .1) (l .2) ∙ sym (ap (λ o. call (checkedBy o g)) r)
 
   module _ (x : List Float) where

@@ -3,7 +3,7 @@ use Prim.Native.Nat.{ℕ}
 use Rattle.multicubic.specs.declared.EdgeMode.{EdgeMode}
 use Rattle.multicubic.specs.declared.Outcome.{Outcome}
 use Rattle.grid.specs.Query.{Grid}
-use Rattle.slices.specs.Slices.{modeOf, namedBy, slicesOf, querySlicesOf, lower}
+use Rattle.slices.specs.Slices.{modeOf, namedBy, slicesOf, querySlicesOf, earlier}
 
 -- a grid, and the length of the shortest slice that it is gathered from
 pub record Gathered : Type 0 where
@@ -15,7 +15,7 @@ abbrev pub setBy : (EdgeMode → Gathered) → ℕ → Gathered
 setBy from mode = record { grid = from (modeOf mode) .grid; shortest = namedBy mode (from (modeOf mode) .shortest) }
 
 abbrev pub lent : Outcome → Grid → Grid
-lent slices g = record { checked = lower slices (g .checked); axis-count = g .axis-count; axes = g .axes; vals = g .vals }
+lent slices g = record { checked = earlier slices (g .checked); axis-count = g .axis-count; axes = g .axes; vals = g .vals }
 
 -- to a call without a single query, by the length of `refusal`
 abbrev pub lentTo : Gathered → ℕ → Grid

@@ -1,7 +1,7 @@
 -- What slices of any length add to the calls: the counts and the query are gathered from them, and those that are too short are refused. The
 -- setting comes as a number; one that names none is refused with them.
 use Prim.Native.Nat.{ℕ, min}
-use mathlib.Core.Bool.{cond}
+use mathlib.Core.Bool.{Bool, cond, _||_}
 use mathlib.Core.List.{List, [], _∷_}
 use lib.Dec.{ltb, eqb}
 use lib.ListN.{getD}
@@ -44,8 +44,12 @@ slicesOf n shortest refusal = refuse (ltb shortest n) 3 then refuse (ltb refusal
 unfoldable pub querySlicesOf : ℕ → ℕ → ℕ → ℕ → ℕ → ℕ → ℕ → Outcome
 querySlicesOf n shortest query refusal room need marks = slicesOf n (min shortest query) refusal then refuse (ltb room need) 7 then refuse (ltb marks n) 7
 
--- of the slices' refusal and the grid's own the one with the lower number, since checks 1 to 7 run in the order of their numbers
-abbrev pub lower : Outcome → Outcome → Outcome
-lower Accepted checked = checked
-lower (Refused number query axis) Accepted = Refused number query axis
-lower (Refused number query axis) (Refused k q a) = cond (ltb k number) (Refused k q a) (Refused number query axis)
+-- whether the grid's own refusal k comes before the slices' number: that is 3 or 7, and of the grid's only 1 and 2 come before 3, and all before 7
+abbrev pub gridFirst : ℕ → ℕ → Bool
+gridFirst k number = ltb k 3 || eqb number 7
+
+-- of the slices' refusal and the grid's own the one whose check comes first
+abbrev pub earlier : Outcome → Outcome → Outcome
+earlier Accepted checked = checked
+earlier (Refused number query axis) Accepted = Refused number query axis
+earlier (Refused number query axis) (Refused k q a) = cond (gridFirst k number) (Refused k q a) (Refused number query axis)

@@ -5,7 +5,7 @@ ghost use Prim.Native.Nat.{min};
 ghost use lib.ListN.{getD};
 ghost use Rattle.ieee.specs.Numbers.{zero};
 ghost use Rattle.slices.specs.Axes.{axisFrom, axesFrom};
-ghost use Rattle.slices.specs.Slices.{countsFrom, queryFrom, modeOf, namedBy, slicesOf, querySlicesOf, lower};
+ghost use Rattle.slices.specs.Slices.{countsFrom, queryFrom, modeOf, namedBy, slicesOf, querySlicesOf, earlier};
 use multicubic::Axis;
 use multicubic::EdgeMode;
 use multicubic::Outcome;
@@ -149,14 +149,17 @@ pub fn check_query_slices(
     }
 }
 
-// Of the slices' refusal and the grid's own the one with the lower number.
-pub fn lower(slices: Outcome, checked: Outcome) -> Outcome
-    ensures { λ r. ⌜ r ≡ lower slices checked ⌝ }
+// Of the slices' refusal and the grid's own the one whose check comes first.
+pub fn earlier(slices: Outcome, checked: Outcome) -> Outcome
+    ensures { λ r. ⌜ r ≡ earlier slices checked ⌝ }
 {
     match slices {
         Outcome::Refused { number: last, .. } => match checked {
             Outcome::Refused { number, .. } => {
-                if number < last {
+                if number < 3 {
+                    return checked;
+                }
+                if last == 7 {
                     return checked;
                 }
                 slices

@@ -15,7 +15,7 @@ use Rattle.multicubic.specs.declared.Saturation.{Saturation}
 use Rattle.multicubic.specs.declared.Saturation.the-variants.{None, InsideLow, OutsideLow, InsideHigh, OutsideHigh}
 use Rattle.multicubic.specs.Answers.{numberOf, queryOf, axisOf}
 
--- query and axis, on every number but 7
+-- query and axis, on every number but 7, where there are entries for them
 abbrev pub told : Outcome → List ℕ → List ℕ
 told outcome before = cond (eqb (numberOf outcome) 7 || ltb (length before) 2) before (set (set before 0 (queryOf outcome)) 1 (axisOf outcome))
 

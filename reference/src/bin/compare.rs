@@ -7,6 +7,9 @@
 //! out of the comparison, more are made, and each is asked by every single call and in a batch of values and of gradients.
 //! Expected is the refusal of the lowest axis that refuses: 9 where its coordinate is a NaN, 8 where it is a number that the
 //! Rust cannot place. Their draws are their own as well.
+//! Flat axes, on which an entry is equal to the one before it, are ours alone too: refused with 10, and taken by the Rust. A
+//! rectilinear grid that is drawn with one goes to ours alone, as drawn, and is compared with that axis mended; more are made.
+//! Expected is what 5, 6 and 10 say by their definition, before 7 and 9. These draws are their own too.
 //! Each grid is then asked in held too, which the Rust does not have: a check on us, and no reference, by what
 //! src/held.rs works out. Its draws are its own, so that those of cubic and straight are the same with it and without.
 //! Mode numbers that are none are ours alone as well: they are refused with 3, and 1 and 2 come first.
@@ -745,8 +748,45 @@ fn held_queries<T: Width>(axes: &[Axis<T>], r: &mut Rng, k: &mut Counts) -> (Que
     (queries, nans)
 }
 
-/// The five calls with mode numbers that are none, whatever else is wrong: 1 or 2 where they apply, else 3. Nothing is
-/// written but the refusal, and that only where it has room.
+/// The calls on a grid that is refused with this number and axis before any buffer is looked at: lengths that fit, or one too
+/// short or too long, and a refusal with room or without. Nothing is written but the refusal, and that only where it has room.
+/// The five that have a mode, and `new` where the mode is one.
+fn before_lengths<T: Calls>(g: &Grid<T>, expected: (u8, usize), nan: bool, r: &mut Rng) -> Result<(), String> {
+    let n = g.axis_count;
+    let mut len = |fit: usize| if r.one_in(4) { (fit + 1).saturating_sub(r.pick(&[0, 2])) } else { fit };
+    let c = len(3);
+    let entry = |i: usize| if nan { T::NAN } else { T::of(i as f64) };
+    // A single query that is too short is 3 by itself.
+    let x: Vec<T> = (0..len(n).max(if expected.0 > 3 { n } else { 0 })).map(entry).collect();
+    let many: Vec<T> = (0..len(n * c)).map(entry).collect();
+    let (mut origins, mut classes) = (wholes(len(n)), bytes(len(n)));
+    let mut marks = bytes(classes.len);
+    let mut lent = [1, n, c, n * c].map(|fit| floats::<T>(len(fit)));
+    for call in 0..if g.mode > HELD { 5 } else { 6 } {
+        let mut refusal = wholes(r.pick(&[4, 4, 4, 2, 1, 0]));
+        let (name, number) = match call {
+            0 => ("get_loc", T::get_loc(g, &x, refusal.part(), origins.part(), classes.part(), marks.part())),
+            1 => ("interp_one", T::interp_one(g, &x, refusal.part(), lent[0].part(), marks.part())),
+            2 => ("interp_one_grad", T::interp_one_grad(g, &x, refusal.part(), lent[1].part(), marks.part())),
+            3 => ("interp", T::interp(g, &many, refusal.part(), lent[2].part())),
+            4 => ("interp_grad", T::interp_grad(g, &many, refusal.part(), lent[3].part())),
+            _ => ("new", T::new(g, refusal.part())),
+        };
+        let told = if refusal.len < 2 { 0 } else { 2 };
+        let kept = refusal.rest_kept(told) && (0..told).all(|i| refusal.at(i) == [0, expected.1][i]);
+        if number != expected.0 || !kept {
+            let refusal = refusal.part();
+            return Err(format!("{name}, mode {}: number {number}, expected {expected:?}; refusal {refusal:?}\n{g:?}", g.mode));
+        }
+        let kept = origins.rest_kept(0) && classes.rest_kept(0) && marks.rest_kept(0);
+        if !kept || lent.iter().any(|x| !x.rest_kept(0)) {
+            return Err(format!("{name}, mode {}: an entry was written on {number}\n{g:?}", g.mode));
+        }
+    }
+    Ok(())
+}
+
+/// The five calls with mode numbers that are none, whatever else is wrong: 1 or 2 where they apply, else 3.
 fn no_mode<T: Calls>(g: &Grid<T>, modes: impl Iterator<Item = u8>, r: &mut Rng, k: &mut Counts) -> Result<(), String> {
     let mut g = g.clone();
     let n = g.counts.len();
@@ -759,41 +799,15 @@ fn no_mode<T: Calls>(g: &Grid<T>, modes: impl Iterator<Item = u8>, r: &mut Rng, 
     };
     for mode in modes {
         g.mode = mode;
-        // Lengths that fit, or one too short or too long; and a refusal with room or without.
-        let mut len = |fit: usize| if r.one_in(4) { (fit + 1).saturating_sub(r.pick(&[0, 2])) } else { fit };
-        let c = len(3);
-        let x: Vec<T> = (0..len(n)).map(|i| T::of(i as f64)).collect();
-        let many: Vec<T> = (0..len(n * c)).map(|i| T::of(i as f64)).collect();
-        let (mut origins, mut classes) = (wholes(len(n)), bytes(len(n)));
-        let mut marks = bytes(classes.len);
-        let mut lent = [1, n, c, n * c].map(|fit| floats::<T>(len(fit)));
-        for call in 0..5 {
-            let mut refusal = wholes(r.pick(&[4, 4, 4, 2, 1, 0]));
-            let (name, number) = match call {
-                0 => ("get_loc", T::get_loc(&g, &x, refusal.part(), origins.part(), classes.part(), marks.part())),
-                1 => ("interp_one", T::interp_one(&g, &x, refusal.part(), lent[0].part(), marks.part())),
-                2 => ("interp_one_grad", T::interp_one_grad(&g, &x, refusal.part(), lent[1].part(), marks.part())),
-                3 => ("interp", T::interp(&g, &many, refusal.part(), lent[2].part())),
-                _ => ("interp_grad", T::interp_grad(&g, &many, refusal.part(), lent[3].part())),
-            };
-            let told = if refusal.len < 2 { 0 } else { 2 };
-            if number != expected || !refusal.rest_kept(told) || (0..told).any(|i| refusal.at(i) != 0) {
-                let refusal = refusal.part();
-                return Err(format!("{name}, mode {mode}: number {number}, expected {expected}; refusal {refusal:?}\n{g:?}"));
-            }
-            let kept = origins.rest_kept(0) && classes.rest_kept(0) && marks.rest_kept(0);
-            if !kept || lent.iter().any(|x| !x.rest_kept(0)) {
-                return Err(format!("{name}, mode {mode}: an entry was written on {number}\n{g:?}"));
-            }
-            *k.modes.entry(number).or_default() += 1;
-        }
+        before_lengths(&g, (expected, 0), false, r)?;
+        *k.modes.entry(expected).or_default() += 5;
         k.tried.insert(mode);
     }
     Ok(())
 }
 
 /// Every mode number that is none, on grids that are taken and on grids that each check of grids refuses. Those in the three
-/// modes too, with NaN among the queries: 1 to 6 come before 9.
+/// modes too, with NaN among the queries: 1 to 6 and 10 come before 9.
 fn all_modes<T: Calls>(r: &mut Rng, k: &mut Counts) -> Result<(), String> {
     for rectilinear in [false, true] {
         let good = axis::<T>(r, rectilinear, "whole", 5);
@@ -808,7 +822,11 @@ fn all_modes<T: Calls>(r: &mut Rng, k: &mut Counts) -> Result<(), String> {
             Axis::Regular { .. } => good.clone(),
             Axis::Rectilinear(a) => Axis::Rectilinear(vec![a[0], a[2], a[1], a[3], a[4]]),
         };
-        let none = Grid { counts: vec![], ..Grid::new(&[good.clone()], vec![T::one(); 5], HELD) };
+        let level = match &good {
+            Axis::Regular { .. } => good.clone(),
+            Axis::Rectilinear(a) => Axis::Rectilinear(vec![a[0], a[1], a[2], a[3], a[3]]),
+        };
+        let none = Grid { axis_count: 0, counts: vec![], ..Grid::new(&[good.clone()], vec![T::one(); 5], HELD) };
         let mut grids = vec![(none, (1, 0))];
         for (axes, expected) in [
             (vec![good.clone()], (0, 0)),
@@ -821,7 +839,8 @@ fn all_modes<T: Calls>(r: &mut Rng, k: &mut Counts) -> Result<(), String> {
             (vec![wide.clone(), wide], (2, 0)),
             (vec![short, good.clone()], (4, 0)),
             (vec![good.clone(), still], (5, 1)),
-            (vec![back, good], if rectilinear { (6, 0) } else { (0, 0) }),
+            (vec![back, good.clone()], if rectilinear { (6, 0) } else { (0, 0) }),
+            (vec![good, level], if rectilinear { (10, 1) } else { (0, 0) }),
         ] {
             // The values of the grids that are too large are not there.
             let len = product(&axes).min(625);
@@ -838,18 +857,279 @@ fn all_modes<T: Calls>(r: &mut Rng, k: &mut Counts) -> Result<(), String> {
     Ok(())
 }
 
-/// The draws and counts of cubic and straight, and those of held; and the draws for queries with a NaN.
+/// What is counted of flat axes, and the draws for them.
+#[derive(Default)]
+struct Flat {
+    r: Rng,
+    /// Rectilinear axes drawn for the comparison, and those of them that are flat; the grids these are of, and their queries,
+    /// which are compared with those axes mended, in cubic and straight and in held.
+    axes: [u64; 2],
+    grids: u64,
+    queries: [u64; 2],
+    /// Grids of ours alone, as drawn and made; all of them by number, and those with 10 by axis.
+    asked: [u64; 2],
+    by: BTreeMap<u8, u64>,
+    tens: [u64; 4],
+    /// Calls with buffers that fit; with others, and those of them with NaN for queries; and calls with too few counts.
+    calls: [u64; 4],
+}
+
+impl Flat {
+    fn print(&self) {
+        println!("flat axes, ours alone");
+        let ([all, flat], [given, held], [drawn, made]) = (self.axes, self.queries, self.asked);
+        println!("{all:10} rectilinear axes drawn for the comparison, {flat} of them flat, in {} grids", self.grids);
+        println!("{:10} queries to these grids, their axes mended: {given} in cubic and straight, {held} in held", given + held);
+        println!("{:10} grids asked of ours alone, in the three modes: {drawn} as drawn, {made} made", drawn + made);
+        for (number, count) in &self.by {
+            println!("{count:10} of them refused with {number}");
+        }
+        println!("{:10} with 10 on the axes 0 to 3: {:?}", self.tens.iter().sum::<u64>(), self.tens);
+        let [fit, any, nan, few] = self.calls;
+        println!("{fit:10} calls with buffers that fit");
+        println!("{any:10} calls with buffers of any length, {nan} of them with NaN for queries");
+        println!("{few:10} calls with too few counts, refused with 3");
+    }
+}
+
+/// What 5, 6 and 10 say of the axes, by their definition, each over all axes before the next: entry 1 not above entry 0; a
+/// later entry below the one before it, or a NaN; an entry equal to the one before it, as numbers.
+fn order_of<T: Width>(axes: &[Axis<T>]) -> (u8, usize) {
+    let faults: [(u8, fn(&[T]) -> bool); 3] = [
+        (5, |a| !(a[1] > a[0])),
+        (6, |a| (2..a.len()).any(|i| !(a[i] >= a[i - 1]))),
+        (10, |a| (1..a.len()).any(|i| a[i] == a[i - 1])),
+    ];
+    for (number, fault) in faults {
+        if let Some(axis) = axes.iter().position(|a| matches!(a, Axis::Rectilinear(a) if fault(a))) {
+            return (number, axis);
+        }
+    }
+    (0, 0)
+}
+
+/// The same axes with one to three faults, most of them an entry equal to the one before it.
+fn made_flat<T: Width>(axes: &[Axis<T>], r: &mut Rng) -> Vec<Axis<T>> {
+    let mut axes = axes.to_vec();
+    for _ in 0..r.range(1, 3) {
+        let d = r.below(axes.len());
+        let Axis::Rectilinear(a) = &mut axes[d] else { unreachable!() };
+        // The last pair, the first that is not that of 5, or any other.
+        let i = match r.below(4) {
+            0 => a.len() - 1,
+            1 => 2,
+            _ => 2 + r.below(a.len() - 2),
+        };
+        match r.below(16) {
+            // The two zeros in either order, whole numbers before and after them.
+            0..=3 => {
+                a.iter_mut().enumerate().for_each(|(j, x)| *x = T::of(j as f64 - i as f64 + (j < i) as u8 as f64));
+                let zero = T::of(r.pick(&[0.0, -0.0]));
+                (a[i - 1], a[i]) = (zero, -zero);
+            }
+            4 | 5 => a[i - 1..].fill(T::INFINITY),
+            6 => a[i] = T::NAN,
+            7 => a[i] = a[0].down(),
+            8 => a[1] = a[0],
+            _ => a[i] = a[i - 1],
+        }
+    }
+    axes
+}
+
+/// A grid that 5, 6 or 10 refuses, of ours alone: all six calls in the three modes, with buffers that fit and with any, NaN or
+/// not for queries, and now and then with too few counts or with a mode number that is none.
+fn ours_alone<T: Calls>(axes: &[Axis<T>], values: &[T], expected: (u8, usize), f: &mut Flat) -> Result<(), String> {
+    let mut aside = Counts::default();
+    let r = &mut f.r;
+    for mode in [CUBIC, STRAIGHT, HELD] {
+        let mut g = Grid::new(axes, values.to_vec(), mode);
+        let nan = r.coin();
+        refused(&g, expected, r, &mut aside).map_err(|e| format!("{e}\nmode {mode}\n{g:?}"))?;
+        before_lengths(&g, expected, nan, r)?;
+        f.calls[0] += 6;
+        f.calls[1] += 6;
+        f.calls[2] += nan as u64 * 6;
+        if r.one_in(8) {
+            g.counts.pop();
+            before_lengths(&g, (3, 0), nan, r)?;
+            f.calls[3] += 6;
+        }
+    }
+    let mut g = Grid::new(axes, values.to_vec(), HELD);
+    g.mode = r.range(3, 255) as u8;
+    before_lengths(&g, (3, 0), false, r)?;
+    *f.by.entry(expected.0).or_default() += 1;
+    if expected.0 == 10 {
+        f.tens[expected.1] += 1;
+    }
+    Ok(())
+}
+
+/// The flat axes of one round: the grid as drawn where it has one, and one or two that are made of its axes.
+fn flat_axes<T: Calls>(drawn: &[Axis<T>], risen: &[Axis<T>], values: &[T], f: &mut Flat) -> Result<(), String> {
+    let flat = drawn.iter().filter(|a| a.flat()).count() as u64;
+    f.axes[0] += drawn.len() as u64;
+    f.axes[1] += flat;
+    let mut grids = vec![];
+    if flat > 0 {
+        f.grids += 1;
+        f.asked[0] += 1;
+        grids.push(drawn.to_vec());
+    }
+    for _ in 0..f.r.range(1, 2) {
+        f.asked[1] += 1;
+        grids.push(made_flat(risen, &mut f.r));
+    }
+    for axes in grids {
+        let expected = order_of(&axes);
+        if expected.0 == 0 {
+            return Err(format!("a flat axis is expected among {axes:?}"));
+        }
+        ours_alone(&axes, values, expected, f)?;
+    }
+    Ok(())
+}
+
+/// The same in plain cases, in figures that are worked out nowhere. Zeros where the grid is taken: then it is compared.
+fn flat_figures<T: Calls>() -> Result<(), String> {
+    let f = &mut Flat::default();
+    let all = |xs: &[f64]| xs.iter().map(|&x| T::of(x)).collect::<Vec<T>>();
+    let [inf, nan, one, most] = [T::INFINITY, T::NAN, T::one(), T::MAX];
+    let least = T::zero().up();
+    let (good, last, middle) = (all(&[0.0, 1.0, 2.0, 3.0]), all(&[0.0, 1.0, 2.0, 2.0]), all(&[0.0, 1.0, 1.0, 2.0]));
+    let (still, back) = (all(&[1.0, 1.0, 2.0, 3.0]), all(&[0.0, 1.0, 2.0, 1.0]));
+    let mut long: Vec<T> = (0..4096).map(|i| T::of(i as f64)).collect();
+    long[4095] = long[4094];
+    let ([minus, plus], [a, b]) = ([-one, one], [T::zero(), -T::zero()]);
+    let cases: Vec<(Vec<Vec<T>>, (u8, usize))> = vec![
+        (vec![last.clone()], (10, 0)),
+        (vec![middle.clone()], (10, 0)),
+        (vec![all(&[0.0, 1.0, 1.0, 1.0])], (10, 0)),
+        (vec![all(&[0.0, 1.0, 2.0, 2.0, 3.0])], (10, 0)),
+        (vec![long], (10, 0)),
+        // The two zeros, at the last pair, in the middle, and first.
+        (vec![vec![minus + minus, minus, a, b]], (10, 0)),
+        (vec![vec![minus + minus, minus, b, a]], (10, 0)),
+        (vec![vec![minus, a, b, plus]], (10, 0)),
+        (vec![vec![minus, b, a, plus]], (10, 0)),
+        (vec![vec![a, b, plus, plus + plus]], (5, 0)),
+        (vec![vec![b, a, plus, plus + plus]], (5, 0)),
+        // Infinities in a row.
+        (vec![vec![minus, plus, inf, inf]], (10, 0)),
+        (vec![vec![-inf, inf, inf, inf]], (10, 0)),
+        (vec![vec![-inf, -inf, minus, plus]], (5, 0)),
+        (vec![vec![inf; 4]], (5, 0)),
+        // The lowest flat axis.
+        (vec![last.clone(), good.clone(), last.clone()], (10, 0)),
+        (vec![good.clone(), middle.clone(), last.clone()], (10, 1)),
+        (vec![good.clone(), good.clone(), last.clone()], (10, 2)),
+        (vec![good.clone(), good.clone(), good.clone(), middle.clone()], (10, 3)),
+        // 6 before 10, on another axis and on the same.
+        (vec![last.clone(), back.clone()], (6, 1)),
+        (vec![back.clone(), last.clone()], (6, 0)),
+        (vec![all(&[0.0, 1.0, 1.0, 0.5])], (6, 0)),
+        (vec![all(&[0.0, 2.0, 1.0, 1.0])], (6, 0)),
+        (vec![vec![minus, plus, plus, nan]], (6, 0)),
+        (vec![vec![minus, plus, nan, nan]], (6, 0)),
+        // 5 before both.
+        (vec![last.clone(), still.clone()], (5, 1)),
+        (vec![back.clone(), last.clone(), still.clone()], (5, 2)),
+        (vec![all(&[1.0, 1.0, 2.0, 2.0])], (5, 0)),
+        (vec![all(&[1.0, 1.0, 1.0, 1.0])], (5, 0)),
+        // Neighbours one unit apart.
+        (vec![vec![minus, plus, plus.up(), plus.up().up()]], (0, 0)),
+        (vec![vec![plus.down(), plus, plus.up(), plus.up().up()]], (0, 0)),
+        (vec![vec![-least, a, least, plus]], (0, 0)),
+        (vec![vec![-least, b, least, plus]], (0, 0)),
+        (vec![vec![minus, plus, most, inf]], (0, 0)),
+        (vec![vec![-inf, -most, most, inf]], (0, 0)),
+        (vec![vec![-most, (-most).up(), most.down(), most]], (0, 0)),
+    ];
+    for (entries, expected) in cases {
+        let axes: Vec<Axis<T>> = entries.into_iter().map(Axis::Rectilinear).collect();
+        let values: Vec<T> = (0..product(&axes)).map(|i| T::of((i * i % 11) as f64)).collect();
+        let worked_out = order_of(&axes);
+        if worked_out != expected {
+            return Err(format!("{worked_out:?} is worked out, in figures {expected:?}: {axes:?}"));
+        }
+        match expected.0 {
+            0 => taken(&axes, &values, f)?,
+            _ => (0..16).try_for_each(|_| ours_alone(&axes, &values, expected, f))?,
+        }
+    }
+    let axis = |a: &[T]| Axis::Rectilinear(a.to_vec());
+    // A flat axis beside what 1 to 4 refuse, by all six calls: those come first.
+    let (short, over) = (axis(&good[..3]), Axis::Rectilinear((0..4097).map(|i| T::of(i as f64)).collect()));
+    for (axes, more, expected) in [
+        (vec![axis(&last); 5], 0, (1, 0)),
+        (vec![axis(&last), over], 0, (2, 0)),
+        (vec![axis(&last), axis(&good)], 1, (3, 0)),
+        (vec![axis(&last), axis(&good)], -1, (3, 0)),
+        (vec![axis(&last), short], 0, (4, 1)),
+    ] {
+        let values = vec![one; (product(&axes).min(1 << 12) as i64 + more) as usize];
+        for mode in [CUBIC, STRAIGHT, HELD] {
+            let g = Grid::new(&axes, values.clone(), mode);
+            refused(&g, expected, &mut f.r, &mut Counts::default()).map_err(|e| format!("{e}\n{g:?}"))?;
+        }
+    }
+    // 10 before 7, by a refusal of one entry, an answer buffer that is too short, and one query over the most; before 9.
+    let g = Grid::new(&[axis(&last)], good.clone(), CUBIC);
+    let over = vec![T::zero(); (1 << 20) + 1];
+    for (told, queries, room) in [(1, &over[..2], 2), (4, &over[..2], 1), (4, &over[..], over.len()), (4, &[nan, nan][..], 2)] {
+        for call in [T::interp, T::interp_grad] {
+            let (mut refusal, mut lent) = (wholes(told), floats::<T>(room));
+            let number = call(&g, queries, refusal.part(), lent.part());
+            if number != 10 || !lent.rest_kept(0) || (told < 2 && !refusal.rest_kept(0)) {
+                return Err(format!("a batch on a flat axis: number {number}, expected 10\n{g:?}"));
+            }
+        }
+    }
+    let mut refusal = wholes(1);
+    let number = T::new(&g, refusal.part());
+    let few = Grid { counts: vec![], ..g };
+    let mut aside = wholes(4);
+    let fewer = T::new(&few, aside.part());
+    if (number, fewer) != (10, 3) || !refusal.rest_kept(0) {
+        return Err(format!("new: {number} and {fewer}, expected 10 with room for one entry and 3 with too few counts"));
+    }
+    // Regular axes have no 10, and nodes that coincide are no refusal.
+    let level = [Axis::Regular { start: T::of(1e16), step: T::of(0.1), n: 5 }];
+    assert!((1..5).all(|i| level[0].node(i) == level[0].node(0)));
+    taken(&level, &all(&[1.0, 4.0, 9.0, 16.0, 25.0]), f)
+}
+
+/// A grid that both take, at its nodes, between them and beyond, in the three modes.
+fn taken<T: Calls>(axes: &[Axis<T>], values: &[T], f: &mut Flat) -> Result<(), String> {
+    for mode in [CUBIC, STRAIGHT, HELD] {
+        let mut queries = Queries::none(axes.len());
+        for i in 0..400 {
+            let one = if i % 2 == 0 { near_node } else { any_class };
+            let given: Vec<T> = axes.iter().map(|a| one(&mut f.r, a)).collect();
+            let used = used_in(mode, axes, &given);
+            if !any_nan(&given) && !apart(axes, &used) {
+                queries.push(&given, &used);
+            }
+        }
+        asked(&Grid::new(axes, values.to_vec(), mode), &queries, &mut f.r, &mut Counts::default())?;
+    }
+    Ok(())
+}
+
+/// The draws and counts of cubic and straight, and those of held; the draws for queries with a NaN; and flat axes.
 struct Run {
     r: Rng,
     k: Counts,
     h: Rng,
     held: Counts,
     n: Rng,
+    flat: Flat,
 }
 
 /// One random grid with its queries, and now and then a grid that is refused.
 fn round<T: Calls>(run: &mut Run) -> Result<(), String> {
-    let Run { r, k, h, held, n } = run;
+    let Run { r, k, h, held, n, flat } = run;
     if r.one_in(8) {
         let (rectilinear, many) = (r.coin(), r.pick(&[1, 2, 3, 4]));
         let mut g = faulty::<T>(r, rectilinear, many, &mut |r| r.range(4, 7) as usize);
@@ -862,7 +1142,9 @@ fn round<T: Calls>(run: &mut Run) -> Result<(), String> {
             no_mode(&g, [mode].into_iter(), h, held)?;
         }
     }
-    let axes = random_axes::<T>(r);
+    let drawn = random_axes::<T>(r);
+    let axes: Vec<Axis<T>> = drawn.iter().map(Axis::mended).collect();
+    let mended = drawn.iter().any(Axis::flat) as u64;
     let mut g = Grid::new(&axes, any_values(r, product(&axes)), if r.coin() { STRAIGHT } else { CUBIC });
     let size = if r.one_in(5) { r.below(12) } else { r.range(50, 1000) as usize };
     let odd = r.pick(&[0, 0, 0, 10, 100, 1000]);
@@ -877,6 +1159,7 @@ fn round<T: Calls>(run: &mut Run) -> Result<(), String> {
     }
     asked(&g, &queries, r, k)?;
     missing(&g, &axes, &queries, nans, n, k)?;
+    flat.queries[0] += mended * queries.len() as u64;
 
     g.mode = HELD;
     // On values of one sign many components of replaced axes are -0.
@@ -886,8 +1169,10 @@ fn round<T: Calls>(run: &mut Run) -> Result<(), String> {
     let (queries, nans) = held_queries(&axes, h, held);
     asked(&g, &queries, h, held)?;
     missing(&g, &axes, &queries, nans, n, held)?;
+    flat.queries[1] += mended * queries.len() as u64;
     let mode = h.range(3, 255) as u8;
-    no_mode(&g, [mode].into_iter(), h, held)
+    no_mode(&g, [mode].into_iter(), h, held)?;
+    if g.rectilinear { flat_axes(&drawn, &axes, &g.values, flat) } else { Ok(()) }
 }
 
 /// Whether there was no difference.
@@ -896,14 +1181,16 @@ fn compare<T: Calls>(queries: u64, seed: u64) -> bool {
     let start = Instant::now();
     let seeded = seed.wrapping_mul(0x2545f4914f6cdd1d);
     let n = Rng(seeded.rotate_left(32));
-    let mut run = Run { r: Rng(seeded), k: Counts::default(), h: Rng(!seeded), held: Counts::default(), n };
+    let flat = Flat { r: Rng(seeded.rotate_left(16)), ..Flat::default() };
+    let mut run = Run { r: Rng(seeded), k: Counts::default(), h: Rng(!seeded), held: Counts::default(), n, flat };
     let mut grids = 0u64;
-    let mut difference = figures::<T>().and_then(|()| all_modes::<T>(&mut run.h, &mut run.held)).err();
+    let plain = figures::<T>().and_then(|()| flat_figures::<T>());
+    let mut difference = plain.and_then(|()| all_modes::<T>(&mut run.h, &mut run.held)).err();
     while run.k.queries.min(run.held.queries) < queries && difference.is_none() {
         difference = round::<T>(&mut run).err();
         grids += 1;
     }
-    let Run { k, held, .. } = run;
+    let Run { k, held, flat, .. } = run;
     println!("f{}, seed {seed}, {:.1} seconds", T::SIZE, start.elapsed().as_secs_f64());
     println!("{grids:10} grids taken by both");
     println!("cubic and straight, against the Rust");
@@ -916,6 +1203,7 @@ fn compare<T: Calls>(queries: u64, seed: u64) -> bool {
     for (number, count) in &held.modes {
         println!("{count:10} calls refused with {number}");
     }
+    flat.print();
     match &difference {
         None => println!("no difference"),
         Some(difference) => println!("DIFFERENCE in grid {grids}: {difference}"),

@@ -15,6 +15,8 @@
 //! With f32 the same words, the bits of an f32 in the low half of its word, any NaN answer as 7fc00000.
 //! No query has a NaN coordinate: ours refuses those with 9, and the Rust is no reference for them. Where one is drawn, its
 //! query is left out, or a number stands in its place (`put_numbers`); both are counted.
+//! No grid that is taken has a flat axis: ours refuses those with 10, and the Rust, which takes them, is no reference there.
+//! Where one is drawn, its entries are mended before the queries are drawn (`mend`); groups, axes and entries are counted.
 #[path = "../cases.rs"]
 mod cases;
 #[path = "../original.rs"]
@@ -58,6 +60,10 @@ struct Corpus {
     /// Queries with a number in the place of a NaN that was drawn, and the draws of such numbers, which are their own.
     in_place: usize,
     numbers: Rng,
+    /// Groups with a flat axis as drawn, such axes by their flavour, and their entries that were changed.
+    mended: usize,
+    mended_axes: BTreeMap<String, usize>,
+    entries: usize,
     tally: BTreeMap<String, usize>,
     /// By kind, mode, axis count, axis and class.
     classes: BTreeMap<(usize, usize, usize, usize, usize), usize>,
@@ -70,7 +76,7 @@ impl Corpus {
 
     fn head<T: Width>(&mut self, topic: &str, g: &Grid<T>) {
         let n = g.counts.len();
-        assert!((1..=4).contains(&n) && g.values.len() <= 4096 && g.joined.len() <= 4096);
+        assert!((1..=4).contains(&n) && g.axis_count == n && g.values.len() <= 4096 && g.joined.len() <= 4096);
         self.groups += 1;
         self.count(format!("groups, {}, axis count {n}", KINDS[g.rectilinear as usize]));
         self.count(format!("groups, {}", MODES[g.mode as usize]));
@@ -90,6 +96,21 @@ impl Corpus {
         self.words.extend(raw(&g.values));
     }
 
+    /// The axes of a group, those that are flat mended.
+    fn mend<T: Width>(&mut self, drawn: Vec<(&str, Axis<T>)>) -> Vec<Axis<T>> {
+        self.mended += drawn.iter().any(|(_, a)| a.flat()) as usize;
+        let mut axes = vec![];
+        for (flavour, a) in drawn {
+            let risen = a.mended();
+            if a.flat() {
+                *self.mended_axes.entry(flavour.into()).or_default() += 1;
+                self.entries += (0..a.n()).filter(|&i| a.node(i).bits() != risen.node(i).bits()).count();
+            }
+            axes.push(risen);
+        }
+        axes
+    }
+
     /// Puts numbers in the place of NaN coordinates on regular axes that start at no finite number. There nearly every draw
     /// is a NaN, and what such an axis is for is a quotient that is NaN or infinite.
     fn put_numbers<T: Width>(&mut self, axes: &[Axis<T>], x: &mut [T]) {
@@ -106,6 +127,7 @@ impl Corpus {
 
     /// A grid that `new` takes, and queries to it.
     fn group<T: Width>(&mut self, topic: &str, axes: &[Axis<T>], mode: u8, values: Vec<T>, mut queries: Vec<Vec<T>>) {
+        assert!(!axes.iter().any(Axis::flat));
         let g = Grid::new(axes, values, mode);
         queries.iter_mut().for_each(|x| self.put_numbers(axes, x));
         let before = queries.len();
@@ -189,6 +211,10 @@ impl Corpus {
         }
         if axes.iter().zip(x).all(|(a, &x)| (0..a.n()).any(|i| a.node(i) == x)) {
             self.count(format!("queries at a node, {kind}"));
+        }
+        let close = |a: &Axis<T>| matches!(a, Axis::Rectilinear(a) if a.windows(2).any(|pair| pair[0].up() == pair[1]));
+        if axes.iter().any(close) {
+            self.count("queries to an axis with an entry that is the next number above the one before".into());
         }
         for (a, &x) in axes.iter().zip(x) {
             if let Axis::Regular { start, step, .. } = a {
@@ -287,15 +313,16 @@ fn count(r: &mut Rng, many: usize) -> usize {
     }
 }
 
-fn grid<T: Width>(r: &mut Rng, rectilinear: bool, flavours: &[&str], many: usize) -> Vec<Axis<T>> {
+fn grid<T: Width>(r: &mut Rng, o: &mut Corpus, rectilinear: bool, flavours: &[&str], many: usize) -> Vec<Axis<T>> {
     let longer = if many == 4 && r.coin() { r.below(4) } else { 9 };
-    (0..many)
+    let drawn = (0..many)
         .map(|d| {
             let n = if d == longer { 5 } else { count(r, many) };
             let flavour = r.pick(flavours);
-            axis(r, rectilinear, flavour, n)
+            (flavour, axis(r, rectilinear, flavour, n))
         })
-        .collect()
+        .collect();
+    o.mend(drawn)
 }
 
 fn how_many_axes(r: &mut Rng) -> usize {
@@ -335,7 +362,7 @@ fn make<T: Width>(r: &mut Rng, o: &mut Corpus) {
                 }
                 let (parts, size) = [(6, 5), (6, 25), (10, 13), (5, 10)][many - 1];
                 for part in 0..parts {
-                    let axes = grid::<T>(r, rectilinear, &ordinary, many);
+                    let axes = grid::<T>(r, o, rectilinear, &ordinary, many);
                     let v = any_values(r, product(&axes));
                     let queries = (0..size * if many == 1 { 3 } else { 1 })
                         .map(|i| {
@@ -354,7 +381,7 @@ fn make<T: Width>(r: &mut Rng, o: &mut Corpus) {
     // Nodes and their neighbours among the floats.
     for i in 0..60 {
         let many = how_many_axes(r);
-        let axes = grid::<T>(r, i % 2 == 1, &["exact", "exact", "whole", "plain", "wild"], many);
+        let axes = grid::<T>(r, o, i % 2 == 1, &["exact", "exact", "whole", "plain", "wild"], many);
         let v = any_values(r, product(&axes));
         let queries = (0..10).map(|_| axes.iter().map(|a| near_node(r, a)).collect()).collect();
         o.group("node", &axes, r.coin() as u8, v, queries);
@@ -368,7 +395,7 @@ fn make<T: Width>(r: &mut Rng, o: &mut Corpus) {
         } else {
             &["whole", "plain", "whole", "extreme", "tiny", "huge"]
         };
-        let axes = grid::<T>(r, rectilinear, flavours, many);
+        let axes = grid::<T>(r, o, rectilinear, flavours, many);
         let v = any_values(r, product(&axes));
         let queries = (0..10)
             .map(|_| {
@@ -387,7 +414,7 @@ fn make<T: Width>(r: &mut Rng, o: &mut Corpus) {
         } else {
             &["huge", "tiny", "extreme", "wild", "huge", "tiny", "wild", "lost"]
         };
-        let axes = grid::<T>(r, rectilinear, flavours, many);
+        let axes = grid::<T>(r, o, rectilinear, flavours, many);
         let v = any_values(r, product(&axes));
         let queries = (0..8)
             .map(|_| axes.iter().map(|a| if r.one_in(3) { near_node(r, a) } else { any_class(r, a) }).collect())
@@ -397,7 +424,7 @@ fn make<T: Width>(r: &mut Rng, o: &mut Corpus) {
     // Quotients at the marks, some of them on one axis among ordinary others.
     for _ in 0..50 {
         let many = how_many_axes(r);
-        let axes = grid::<T>(r, false, &["quotient"], many);
+        let axes = grid::<T>(r, o, false, &["quotient"], many);
         let v = any_values(r, product(&axes));
         let queries = (0..14)
             .map(|_| {
@@ -407,15 +434,15 @@ fn make<T: Width>(r: &mut Rng, o: &mut Corpus) {
             .collect();
         o.group("quotient", &axes, r.coin() as u8, v, queries);
     }
-    // Flat gaps.
+    // Entries that are the next number above the one before, and zero and the least number above it: flat as drawn, and mended.
     for _ in 0..60 {
         let many = how_many_axes(r);
-        let axes = grid::<T>(r, true, &["flat", "flat", "zeros", "plain"], many);
+        let axes = grid::<T>(r, o, true, &["flat", "flat", "zeros", "plain"], many);
         let v = any_values(r, product(&axes));
         let queries = (0..9)
             .map(|_| axes.iter().map(|a| if r.coin() { near_node(r, a) } else { any_class(r, a) }).collect())
             .collect();
-        o.group("flat", &axes, r.coin() as u8, v, queries);
+        o.group("close", &axes, r.coin() as u8, v, queries);
     }
     // NaN, infinities and extremes among the values; on axes of five to seven entries some blocks leave them out.
     for i in 0..80 {
@@ -442,7 +469,7 @@ fn make<T: Width>(r: &mut Rng, o: &mut Corpus) {
     // Floats by their bits: whatever comes.
     for i in 0..40 {
         let many = r.pick(&[1, 1, 1, 2]);
-        let axes = grid::<T>(r, i % 2 == 1, &["bits"], many);
+        let axes = grid::<T>(r, o, i % 2 == 1, &["bits"], many);
         let v = any_values(r, product(&axes));
         let queries = (0..8)
             .map(|_| {
@@ -481,7 +508,7 @@ fn make<T: Width>(r: &mut Rng, o: &mut Corpus) {
     // Batches that stop: an unplaceable query among good ones, at the beginning, in the middle, at the end, or two.
     for i in 0..50 {
         let many = how_many_axes(r);
-        let axes = grid::<T>(r, false, &ordinary, many);
+        let axes = grid::<T>(r, o, false, &ordinary, many);
         let v = any_values(r, product(&axes));
         let mut queries: Vec<Vec<T>> = (0..9).map(|_| axes.iter().map(|a| any_class(r, a)).collect()).collect();
         let any = r.below(9);
@@ -575,6 +602,9 @@ fn main() {
         missing: [0; 2],
         in_place: 0,
         numbers: Rng(!seed.wrapping_mul(0x2545f4914f6cdd1d)),
+        mended: 0,
+        mended_axes: BTreeMap::new(),
+        entries: 0,
         tally: BTreeMap::new(),
         classes: BTreeMap::new(),
     };
@@ -590,6 +620,11 @@ fn main() {
         println!("{missing:7} queries left out, a coordinate being NaN, {kind}");
     }
     println!("{:7} queries with a number in the place of a NaN, on an axis that starts at no finite number", o.in_place);
+    let axes: usize = o.mended_axes.values().sum();
+    println!("{:7} groups with a flat axis as drawn: {axes} axes, {} entries of them mended", o.mended, o.entries);
+    for (flavour, count) in &o.mended_axes {
+        println!("{count:7} of these axes drawn as {flavour}");
+    }
     for (what, count) in &o.tally {
         println!("{count:7} {what}");
     }

@@ -1,4 +1,4 @@
--- `new`: the refusal of checks 1 to 4, or checks 5 and 6.
+-- `new`: the refusal of checks 1 to 4, or checks 5, 6 and 10.
 use mathlib.Core.Path.{refl, sym, _∙_}
 use lib.ListN.{length}
 use Rattle.multicubic.proofs.Said.{also-says}

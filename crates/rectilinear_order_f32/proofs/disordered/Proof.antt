@@ -3,7 +3,8 @@ use mathlib.Core.Path.{sym}
 use Prim.Native.Nat.{ℕ, suc, _-_, _≤_, _<_}
 use native.Mathlib.Omega.{arith}
 use lib.ListN.{length}
-use Rattle.rectilinear_order.proofs.Order.{Up, up-more, falls-at, rises}
+use lib.Ieee.{le}
+use Rattle.rectilinear_order.proofs.Order.{Up, one-more, fault-at, falls, all-up}
 use borrow.Author.Needs.{needs}
 use Rattle.rectilinear_order_f32.proofs.disordered.Statement.{statement}
 use Rattle.rectilinear_order_f32.proofs.disordered.Tie as tie
@@ -21,19 +22,19 @@ loop-again : tie.Need-loop-again Inv-loop μ-loop
 loop-again c =
     let l = c .before .before .before .before .loop in
     let g = c .before .before .before .before .before .args .grid .now in
-    (omega arith, omega arith, up-more g (l .i) (omega arith) (l .inv .2) (c .if1 .taken))
+    (omega arith, omega arith, one-more le g (l .i) (omega arith) (l .inv .2) (c .if1 .taken))
 
 returns : tie.Need-returns Inv-loop μ-loop
 returns c =
     let l = c .before .before .before .before .loop in
     let g = c .before .before .before .before .before .args .grid .now in
-    sym (falls-at g (l .i) (omega arith) (omega arith) (c .if1 .left))
+    sym (fault-at le g _ (falls g) (l .i) (omega arith) (omega arith) (c .if1 .left))
 
 returns-2 : tie.Need-returns-2 Inv-loop μ-loop
 returns-2 c =
     let l = c .before .loop in
     let g = c .before .before .args .grid .now in
-    sym (rises g (omega arith) (λ k h. l .inv .2 k (omega arith)))
+    sym (all-up g (omega arith) (λ k h. l .inv .2 k (omega arith)))
 
 pub disordered-spec : {M : Type 1} → statement M
 disordered-spec =

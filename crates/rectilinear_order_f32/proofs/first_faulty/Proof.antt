@@ -9,13 +9,13 @@ use Rattle.rectilinear_order_f32.proofs.first_faulty.Statement.{stateme
 use Rattle.rectilinear_order_f32.proofs.first_faulty.Tie as tie
 
 abbrev Inv-loop : tie.InvT-loop
-Inv-loop axis-count axes order number counts at₀ i₀ at i = Left number (faultOf order) axis-count counts axes at i
+Inv-loop axis-count axes number counts at₀ i₀ at i = Left number (faultOf number) axis-count counts axes at i
 
 abbrev μ-loop : tie.MeasureT-loop
-μ-loop axis-count axes order number counts at₀ i₀ at i = axis-count - i
+μ-loop axis-count axes number counts at₀ i₀ at i = axis-count - i
 
 loop-holds : tie.Need-loop-holds Inv-loop μ-loop
-loop-holds c = start (c .before .args .number) (faultOf (c .before .args .order)) (c .before .args .axis-count) (c .before .args .t2) (c .before .args .axes .now) (omega arith) (omega arith)
+loop-holds c = start (c .before .args .number) (faultOf (c .before .args .number)) (c .before .args .axis-count) (c .before .args .t2) (c .before .args .axes .now) (omega arith) (omega arith)
 
 add-end : tie.Need-add-end Inv-loop μ-loop
 add-end c = omega (arith, fits (c .before .loop .inv) (c .loop-test .taken))
