@@ -3,7 +3,9 @@
 # builds both where they are not built yet. Needs rt, python3, gcc and rustc.
 set -eu
 cd "$(dirname "$0")/.."
-archives=$(dirname "$(VELTZUMA_LIBRARY='' ./veltzuma build)")
+# By itself, so that its status counts.
+library=$(VELTZUMA_LIBRARY='' ./veltzuma build)
+archives=$(dirname "$library")
 programs=build/examples
 mkdir -p "$programs"
 gcc -std=c11 -Wall -Wextra -Werror -O2 -o "$programs/read_c" examples/read.c "$archives/libcapi.a"

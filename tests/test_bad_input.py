@@ -263,12 +263,61 @@ class BadCommands(InFolder):
             self.assertOneLine(run(*words, '-o', os.path.join(self.folder, '.', 't.table')), 2, 'this is the table itself')
         self.assertEqual(run('check', path)[0], 0)
 
+    def test_output_is_another_table(self):
+        """No table is overwritten, not even one of another format, or one that is no good."""
+        path = self.write(GOOD)
+        for content in (GOOD, REGULAR, 'veltzuma table 1', 'veltzuma table 2\nkind: new\n', '\ufeff' + GOOD):
+            other = self.write(content, 'other.table')
+            for words in (['plot', path, '--along', '0'], ['report', path]):
+                self.assertOneLine(run(*words, '-o', other), 2, f'{other}: this is a table, and is not overwritten')
+                with open(other, encoding='utf-8') as kept:
+                    self.assertEqual(kept.read(), content)
+        # What is none is.
+        for content in ('', 'veltzuma', 'a page about a veltzuma table 1\n'):
+            other = self.write(content, 'other.svg')
+            self.assertEqual(run('plot', path, '--along', '0', '-o', other), (0, f'written: {other}\n', ''))
+            with open(other, encoding='utf-8') as found:
+                self.assertTrue(found.read().startswith('<svg'))
+
+    def test_standard_output(self):
+        """Nothing else is written there, and no file of that name."""
+        path, here = self.write(GOOD), os.getcwd()
+        os.chdir(self.folder)
+        self.addCleanup(os.chdir, here)
+        for words in (['plot', path, '--along', '0'], ['report', path]):
+            out = os.path.join(self.folder, 'out')
+            self.assertEqual(run(*words, '-o', out), (0, f'written: {out}\n', ''))
+            with open(out, encoding='utf-8') as found:
+                self.assertEqual(run(*words, '-o', '-'), (0, found.read(), ''))
+        self.assertFalse(os.path.exists(os.path.join(self.folder, '-')))
+        self.assertEqual(self.closed(path), (2, '/dev/full'))
+
+    def closed(self, path):
+        """A full standard output, as a file that is full."""
+        with open('/dev/full', 'wb') as full:
+            done = subprocess.run([sys.executable, '-S', '-B', TOOL, 'report', path, '-o', '-'], stdout=full, stderr=subprocess.PIPE)
+        self.assertEqual(done.stderr, b'veltzuma: [Errno 28] No space left on device\n')
+        return done.returncode, full.name
+
+    def test_report_of_a_refused_table(self):
+        """Is written, and what is refused is said on standard error, once where it is the same in both widths."""
+        out = os.path.join(self.folder, 'out')
+        for text, said in ((GOOD.replace('0, 1, 2, 3\n', '0, 1, 3, 2\n'), ":6: refused 6 (disorder): axis 0 'flow', entry 3: 2 is below the entry before it, 3"),
+                           (GOOD.replace('0, 1, 2, 3\n', '0, 1, 1.00000001, 3\n'),
+                            ":6: in f32: refused 10 (flat): axis 0 'flow', entry 2: 1.00000001 and the entry before it, 1, are both 1 in f32")):
+            path = self.write(text)
+            self.assertEqual(run('report', path, '-o', out), (1, f'written: {out}\n', f'{path}{said}\n'))
+            with open(out, encoding='utf-8') as found:
+                page = found.read()
+            self.assertEqual(run('report', path, '-o', '-'), (1, page, f'{path}{said}\n'))
+
     def test_names_with_odd_characters(self):
         for name in ('two\nlines.table', 'b\x1b[31m.table', os.fsdecode(b'bad\xff.table')):
             self.assertOneLine(run('check', os.path.join(self.folder, name)), 2, 'No such file or directory')
             path = self.write(GOOD, name)
             self.assertEqual(run('check', path)[0], 0)
-            self.assertEqual(run('report', path, '-o', path + '.html'), (0, '', ''))
+            told = path.replace('\n', '\\n').replace('\x1b', '\\x1b')
+            self.assertEqual(run('report', path, '-o', path + '.html'), (0, f'written: {told}.html\n', ''))
 
 
 class Processes(InFolder):

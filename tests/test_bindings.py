@@ -4,6 +4,7 @@ import copy
 import ctypes
 import functools
 import gc
+import inspect
 import itertools
 import json
 import math
@@ -16,10 +17,23 @@ import struct
 import subprocess
 import sys
 import tempfile
+import types
+import typing
 import unittest
+from unittest import mock
 
 from support import Direct, LIBRARY, MARKS, MODES, OTHERS, TOP, bits, stand_in, text_of
 import veltzuma
+
+try:
+    import numpy
+except ImportError:
+    numpy = None
+try:
+    # Arrays of any order in memory, from Python's own tests.
+    from _testbuffer import ND_FORTRAN, ND_WRITABLE, ndarray
+except ImportError:
+    ndarray = None
 
 CUBE = ([4], [0.0], [1.0], [0.0, 1.0, 8.0, 27.0])
 CODE = {'f64': 'd', 'f32': 'f'}
@@ -101,7 +115,8 @@ class Calls(unittest.TestCase):
         self.assertEqual(numbers, {0, *veltzuma.REFUSALS})
 
     def test_refusal(self):
-        for width, (given, number, name) in itertools.product(veltzuma.WIDTHS, ((math.inf, 8, 'unplaceable'), (math.nan, 9, 'missing'))):
+        for width, (given, number, name, words) in itertools.product(veltzuma.WIDTHS, (
+                (math.inf, 8, 'unplaceable', '(inf - 0) / 1 is not a finite number from -2^63 to below 2^63'), (math.nan, 9, 'missing', 'no reading (nan)'))):
             grid = veltzuma.MulticubicRegular(*CUBE, width=width)
             out = array.array(CODE[width], [-1.0, -2.0, -3.0])
             told = None
@@ -110,12 +125,12 @@ class Calls(unittest.TestCase):
             except veltzuma.Refusal as refusal:
                 told = refusal
             self.assertEqual((told.number, told.name, told.query, told.axis), (number, name, 1, 0))
-            self.assertEqual(str(told), f'refused {number} ({name}): query 1, axis 0')
+            self.assertEqual(str(told), f'refused {number} ({name}): query 1, axis 0: {words}')
             self.assertEqual(out.tolist(), [3.375, -2.0, -3.0])
             # The buffer is the caller's again, though the exception is kept.
             out.append(1.0)
             for again in (pickle.loads(pickle.dumps(told)), copy.copy(told)):
-                self.assertEqual((again.number, again.query, again.axis, again.name), (number, 1, 0, name))
+                self.assertEqual((again.number, again.query, again.axis, again.name, str(again)), (number, 1, 0, name, str(told)))
 
     def test_numbers_of_the_documents(self):
         """The header and the specification list these refusals and no others."""
@@ -132,18 +147,21 @@ class Calls(unittest.TestCase):
         dll = ctypes.CDLL(LIBRARY)
         self.assertEqual([dll['veltzuma_version' + ending]() for ending in ('', '_f32')], [veltzuma.VERSION] * 2)
 
+    def test_release(self):
+        """The version of the calls, and which release with these calls."""
+        self.assertRegex(veltzuma.__version__, rf'^{veltzuma.VERSION}\.(0|[1-9][0-9]*)$')
+
     def test_examples(self):
         """What the module shows works as written."""
         names, shown = {'veltzuma': veltzuma}, [line.strip().partition('#') for line in veltzuma.__doc__.split('\n') if line.startswith('    grid')]
-        self.assertEqual(len(shown), 7)
+        self.assertEqual(len(shown), 8)
         for code, _, said in shown:
             if not said:
                 exec(code, names)
             elif 'raises' in said:
                 with self.assertRaises(veltzuma.Refusal) as caught:
                     eval(code, names)
-                told = caught.exception
-                self.assertEqual(said, f' raises Refusal: number {told.number}, query {told.query}, axis {told.axis}')
+                self.assertEqual(said, f' raises Refusal: {caught.exception}')
             else:
                 self.assertEqual(repr(eval(code, names)), said.strip())
 
@@ -336,11 +354,16 @@ class MissingReadings(unittest.TestCase):
                     self.assertEqual(self.refused(call, x, None, mode), (9, 0, 1), hex(pattern))
 
     def test_where_a_nan_is_not_refused(self):
-        """Past the axis count, and among the values."""
+        """Past the axis count, for the library; the binding takes no such query. And among the values."""
+        vals = [i * 1.5 + j * j for i in range(4) for j in range(5)]
         for width, mode in itertools.product(veltzuma.WIDTHS, MODES):
             for grid, other in zip(self.grids(width), self.grids(width, [math.nan] * 20)):
-                for call in ('interp_one', 'interp_one_grad', 'get_loc'):
-                    self.assertEqual(getattr(grid, call)([1.5, 2.5, math.nan, math.nan], mode), getattr(grid, call)([1.5, 2.5], mode))
+                _, direct = both(grid, [4, 5], [[0, 0], [1, 1]] if grid.kind == 'regular' else [[0, 1, 2, 3, 0, 1, 2, 3, 4]], vals, width)
+                self.assertEqual(direct.one([1.5, 2.5, math.nan, math.nan], mode), direct.one([1.5, 2.5], mode))
+                self.assertEqual(direct.one([1.5, 2.5], mode)[0], grid.interp_one([1.5, 2.5], mode))
+                for call in (grid.interp_one, grid.interp_one_grad, grid.get_loc):
+                    with self.assertRaises(ValueError):
+                        call([1.5, 2.5, math.nan, math.nan], mode)
                 self.assertTrue(math.isnan(other.interp_one([1.5, 2.5], mode)) and math.isnan(other.interp([1.5, 2.5], None, mode)[0]))
                 self.assertEqual(other.get_loc([1.5, 2.5], mode), grid.get_loc([1.5, 2.5], mode))
                 self.assertEqual(self.refused(other.interp_one, [1.5, math.nan], mode), (9, 0, 1))
@@ -395,7 +418,6 @@ class MissingReadings(unittest.TestCase):
             for grid in self.grids(width):
                 self.assertEqual(self.refused(grid.interp, [math.nan] * 4, array.array(CODE[width], [0.0] * 3), mode), (7, 0, 0))
                 self.assertEqual(self.refused(grid.interp_grad, [math.nan] * 4, array.array(CODE[width], [0.0] * 3), mode), (7, 0, 0))
-                self.assertEqual(self.refused(grid.interp_one, [math.nan], mode), (3, 0, 0))
                 self.assertEqual(self.refused(grid.interp_one, [math.nan] * 2, 3), (3, 0, 0))
 
     def test_by_own_arithmetic(self):
@@ -436,6 +458,24 @@ class MissingReadings(unittest.TestCase):
         # A rectilinear axis refuses nothing but a NaN. Held, no number is refused on these axes.
         self.assertEqual(seen, {(kind, width, mode, number) for kind in ('regular', 'rectilinear') for width in veltzuma.WIDTHS for mode in MODES for number in (0, 8, 9)
                                 if number != 8 or kind == 'regular' and mode != 'held'})
+
+
+class MostQueries(unittest.TestCase):
+    """Check 7's bound: 1,048,576 queries are answered, one more is refused, and nothing is written."""
+
+    def test_at_the_bound_and_past_it(self):
+        for width, code in (('f64', 'd'), ('f32', 'f')):
+            for grid in (veltzuma.MulticubicRegular([4], [0.0], [1.0], [0.0, 1.0, 8.0, 27.0], width=width),
+                         veltzuma.MulticubicRectilinear([4], [0.0, 1.0, 2.0, 3.0], [0.0, 1.0, 8.0, 27.0], width=width)):
+                for call, answer in ((grid.interp, 3.375), (grid.interp_grad, 6.25)):
+                    out = array.array(code, [-1.0]) * (1 << 20)
+                    call(array.array(code, [1.5]) * (1 << 20), out)
+                    self.assertEqual(out.tobytes(), (array.array(code, [answer]) * (1 << 20)).tobytes(), (width, grid.kind))
+                    out = array.array(code, [-1.0]) * ((1 << 20) + 1)
+                    with self.assertRaises(veltzuma.Refusal) as refused:
+                        call(array.array(code, [1.5]) * ((1 << 20) + 1), out)
+                    self.assertEqual((refused.exception.number, refused.exception.query, refused.exception.axis), (7, 0, 0))
+                    self.assertEqual(out.tobytes(), (array.array(code, [-1.0]) * ((1 << 20) + 1)).tobytes(), (width, grid.kind))
 
 
 class FlatAxes(unittest.TestCase):
@@ -480,7 +520,7 @@ class FlatAxes(unittest.TestCase):
                 self.assertEqual([list(room) for room in rooms], [[77] * len(room) for room in rooms])
         with self.assertRaises(veltzuma.Refusal) as caught:
             self.grid('f64', self.RISING, self.FLAT)[0].new()
-        self.assertEqual((caught.exception.name, str(caught.exception)), ('flat', 'refused 10 (flat): query 0, axis 1'))
+        self.assertEqual((caught.exception.name, str(caught.exception)), ('flat', 'refused 10 (flat): axis 1, entry 2: 1 equals the entry before it'))
 
     def test_after_the_other_checks_of_the_axes(self):
         flat, rising, disorder, start = self.FLAT, self.RISING, self.DISORDER, self.LEVEL_START
@@ -610,7 +650,9 @@ class Inputs(unittest.TestCase):
         return {'list': list(numbers), 'tuple': tuple(numbers), 'iterator': iter(numbers), 'array': own, 'view': memoryview(own), 'strided': memoryview(wide)[::2],
                 'backwards': memoryview(array.array(code, numbers[::-1]))[::-1], 'read-only': memoryview(own).toreadonly(), 'other width': other,
                 'whole numbers': array.array('i', [int(number) for number in numbers]), 'ctypes': (kind * len(numbers))(*numbers),
-                'big-endian ctypes': (kind.__ctype_be__ * len(numbers))(*numbers), 'misaligned': self.misaligned(own)}
+                'big-endian ctypes': (kind.__ctype_be__ * len(numbers))(*numbers),
+                'whole numbers of ctypes': (ctypes.c_long * len(numbers))(*map(int, numbers)), 'extended ctypes': (ctypes.c_longdouble * len(numbers))(*numbers),
+                'misaligned': self.misaligned(own)}
 
     @staticmethod
     def misaligned(own):
@@ -629,20 +671,9 @@ class Inputs(unittest.TestCase):
                 self.assertEqual(grid.interp(self.forms([1.0, 2.0], code)[name]).tolist(), [1.0, 8.0], (name, width))
                 self.assertEqual(grid.interp_one(self.forms([2.0], code)[name]), 8.0)
 
-    def test_shapes(self):
-        flat = array.array('d', [i * 10 + j for i in range(4) for j in range(5)])
-        shaped = memoryview(flat).cast('B').cast('d', [4, 5])
-        for vals in (flat, shaped):
-            grid = veltzuma.MulticubicRegular([4, 5], [0, 0], [1, 1], vals)
-            self.assertEqual(grid.interp_one([2, 3]), 23.0)
-
+    @unittest.skipUnless(numpy, 'numpy is not installed: its arrays are not tried')
     def test_numpy(self):
-        try:
-            import numpy
-        except ImportError:
-            print('numpy is not installed: its arrays are not tried ... ', end='', file=sys.stderr)
-            return
-        for dtype in ('f8', 'f4', '>f8', 'i4', 'f2', 'longdouble', 'bool', 'object'):
+        for dtype in ('f8', 'f4', '>f8', '>f4', 'i4', '>i8', 'f2', 'longdouble', 'bool', 'object'):
             vals = numpy.array([[i % 2 for _ in range(5)] for i in range(4)], dtype=dtype)
             for given in (vals, numpy.asfortranarray(vals), numpy.repeat(vals, 2, axis=1)[:, ::2]):
                 for width in veltzuma.WIDTHS:
@@ -650,10 +681,15 @@ class Inputs(unittest.TestCase):
                     found = grid.interp(numpy.array([[1, 2], [3, 3]], dtype=dtype if dtype != 'bool' else 'f8'))
                     self.assertIsInstance(found, numpy.ndarray)
                     self.assertEqual((found.tolist(), found.dtype), ([1.0, 0.0], numpy.dtype('f8' if width == 'f64' else 'f4')))
+                self.assertEqual(veltzuma.MulticubicRegular([4, 5], [0, 0], [1, 1], given).width, 'f32' if dtype in ('f4', '>f4') else 'f64')
         out = numpy.full(2, 7.0)
         grid = veltzuma.MulticubicRegular(*CUBE, axis_count=numpy.uint64(1))
         self.assertIs(grid.interp([1.0, 2.0], out, numpy.int8(0)), out)
         self.assertEqual(out.tolist(), [1.0, 8.0])
+        # A list of columns, as interpn takes them; and numbers of no dimension.
+        found = grid.interp([numpy.array([1.0, 2.0])])
+        self.assertIsInstance(found, numpy.ndarray)
+        self.assertEqual((found.tolist(), grid.interp_one(numpy.float64(2.0)), grid.interp_one([numpy.array(2.0)])), ([1.0, 8.0], 8.0, 8.0))
 
     def test_lent_memory(self):
         """What is lent is seen when it changes, outlives its name, and cannot be moved."""
@@ -707,7 +743,7 @@ class Inputs(unittest.TestCase):
         for wrong, error in (('flat', ValueError), (None, TypeError), (1.0, TypeError)):
             with self.assertRaises(error):
                 grid.interp_one([1.5], wrong)
-        for wrong in ('12', b'12', [None], ['x'], 5, None):
+        for wrong in ('12', b'12', [None], ['x'], [b'1'], [['x']], 5, None):
             with self.assertRaises(TypeError):
                 grid.interp_one(wrong)
         with self.assertRaises(ValueError):
@@ -754,6 +790,580 @@ class Inputs(unittest.TestCase):
     def libc():
         with open('/proc/self/maps') as maps:
             return next(line.split()[-1] for line in maps if '/libc.so' in line or '/libc-' in line)
+
+
+def shaped(numbers, shape, code='d'):
+    """A view of this shape on an array of its own."""
+    return memoryview(array.array(code, numbers)).cast('B').cast(code, list(shape))
+
+
+def nested(numbers, shape):
+    """The same as nested lists."""
+    if len(shape) == 1:
+        return list(numbers)
+    size = len(numbers) // shape[0]
+    return [nested(numbers[i * size:(i + 1) * size], shape[1:]) for i in range(shape[0])]
+
+
+class WithT(list):
+    """Nested lists that have a transpose, as an array of numpy has it."""
+    T = None
+
+
+class Shapes(unittest.TestCase):
+    """What has more than one dimension has the right shape and is answered as the same numbers joined, or it is a ValueError that says so."""
+
+    def error(self, call, *given, **more):
+        with self.assertRaises(ValueError) as caught:
+            call(*given, **more)
+        self.assertIs(type(caught.exception), ValueError)
+        return str(caught.exception)
+
+    @staticmethod
+    def forms(numbers, shape, code):
+        """Every form that has this shape, of the same numbers, which are those of f32."""
+        other, rows = 'f' if code == 'd' else 'd', nested(numbers, shape)
+        kind = ctypes.c_double if code == 'd' else ctypes.c_float
+        for size in shape[::-1]:
+            kind = kind * size
+        found = {'lists': rows, 'tuples': tuple(map(tuple, rows)), 'iterator': iter(rows), 'view': shaped(numbers, shape, code), 'other width': shaped(numbers, shape, other),
+                 'read-only': shaped(numbers, shape, code).toreadonly(), 'backwards': shaped([x for row in rows[::-1] for x in flat(row)], shape, code)[::-1],
+                 'ctypes': kind.from_buffer_copy(array.array(code, numbers).tobytes())}
+        if len(shape) == 2:
+            found['arrays'] = [array.array(code, row) for row in rows]
+            found['views'] = tuple(memoryview(array.array(other, row)) for row in rows)
+            found['iterators'] = (array.array(code, row) for row in rows)
+        if ndarray:
+            order = {'little': '>', 'big': '<'}[sys.byteorder]
+            memory = [x for index in itertools.product(*map(range, shape[::-1])) for x in [at(rows, index[::-1])]]
+            found['Fortran'] = ndarray(memory, shape=list(shape), format=code, flags=ND_FORTRAN | ND_WRITABLE)
+            found['Fortran, other width'] = ndarray(memory, shape=list(shape), format=other, flags=ND_FORTRAN)
+            found['other order of bytes'] = ndarray(list(numbers), shape=list(shape), format=order + code, flags=ND_WRITABLE)
+            wide = [x for number in numbers for x in (number, -1.0)]
+            size, strides = array.array(code).itemsize, []
+            for i in range(len(shape)):
+                strides.append(2 * size * math.prod(shape[i + 1:]))
+            found['strided'] = ndarray(wide, shape=list(shape), strides=strides, format=code, flags=ND_WRITABLE)
+        if numpy:
+            plain = numpy.array(rows, dtype=code)
+            found.update({'numpy': plain, 'numpy Fortran': numpy.asfortranarray(plain), 'numpy transposed': numpy.ascontiguousarray(plain.T).T,
+                          'numpy strided': numpy.repeat(plain, 2, axis=-1)[..., ::2], 'numpy other bytes': plain.astype(plain.dtype.newbyteorder()),
+                          'numpy other width': plain.astype(other), 'numpy rows': list(plain), 'numpy whole': numpy.array(rows, dtype='object')})
+        return found
+
+    @staticmethod
+    def numbers(count, seed):
+        return array.array('f', [random.Random(seed + k).uniform(-9, 9) for k in range(count)]).tolist()
+
+    @staticmethod
+    def grids(counts, vals, width):
+        entries = [[k * 1.5 + (k == 2) * 0.25 for k in range(count)] for count in counts]
+        return (veltzuma.MulticubicRegular(counts, [0.0] * len(counts), [1.5] * len(counts), vals() if callable(vals) else vals, width),
+                veltzuma.MulticubicRectilinear(counts, sum(entries, []), vals() if callable(vals) else vals, width),
+                veltzuma.MulticubicRectilinear.of_axes(entries, vals() if callable(vals) else vals, width))
+
+    def test_forms(self):
+        """That the forms hold what they are to hold."""
+        for code, shape in itertools.product('df', ((2, 3), (3, 2, 4))):
+            numbers = self.numbers(math.prod(shape), 1)
+            for name, form in self.forms(numbers, shape, code).items():
+                if name not in ('iterator', 'iterators', 'other order of bytes', 'numpy other bytes'):
+                    self.assertEqual(list(flat(form.tolist() if hasattr(form, 'tolist') else form)), numbers, name)
+
+    def test_values(self):
+        """In every form they give the answers of the joined ones, by their bits."""
+        for width, counts in itertools.product(veltzuma.WIDTHS, ((4, 5), (5, 4), (4, 6, 5), (4, 4, 5, 4))):
+            vals = self.numbers(math.prod(counts), 2)
+            queries = self.numbers(7 * len(counts), 3)
+            expected = [(grid.interp(queries), grid.interp_grad(queries)) for grid in self.grids(counts, vals, width)]
+            for name in self.forms(vals, counts, CODE[width]):
+                for grid, (values, slopes) in zip(self.grids(counts, lambda: self.forms(vals, counts, CODE[width])[name], width), expected):
+                    self.assertTrue(same(grid.interp(queries), values, width), (name, width, counts))
+                    self.assertTrue(same(grid.interp_grad(queries), slopes, width), (name, width, counts))
+                    for a, b in itertools.combinations(grid._lent, 2):
+                        self.assertFalse(a.overlaps(b))
+
+    def test_queries(self):
+        for width, axes, count in itertools.product(veltzuma.WIDTHS, (1, 2, 3, 4), (1, 2, 5)):
+            vals, queries = self.numbers(4 ** axes, 4), self.numbers(axes * count, 5)
+            for grid in self.grids([4] * axes, vals, width):
+                values, slopes = grid.interp(queries), grid.interp_grad(queries)
+                # A query by itself, by its own numbers.
+                self.assertTrue(same([grid.interp_one(queries[k::count]) for k in range(count)], values, width))
+                for name in self.forms(queries, (axes, count), CODE[width]):
+                    self.assertTrue(same(grid.interp(self.forms(queries, (axes, count), CODE[width])[name]), values, width), (name, width, axes))
+                    self.assertTrue(same(grid.interp_grad(self.forms(queries, (axes, count), CODE[width])[name]), slopes, width), (name, width, axes))
+                    if axes != count:
+                        told = self.error(grid.interp, self.forms(queries, (count, axes), CODE[width])[name])
+                        self.assertTrue(told.startswith(f'queries has shape ({count}, {axes}), where {axes} {"axis needs" if axes == 1 else "axes need"} ({axes}, n)'), told)
+                        self.assertEqual(told.endswith(' has that shape'), True, told)
+
+    def test_wrong_values(self):
+        counts = {(4, 5): {(5, 4): '; {} has that shape', (2, 10): '', (20, 1): '', (1, 4, 5): '', (4, 5, 1): '', (4, 4): ''}, (4,): {(4, 1): '', (1, 4): ''},
+                  (4, 5, 6): {(6, 5, 4): '; its transpose has that shape', (5, 4, 6): '; its transpose by (1, 0, 2) has that shape',
+                              (6, 4, 5): '; its transpose by (1, 2, 0) has that shape', (4, 30): '', (4, 5, 7): ''},
+                  # Two transposes have it, and only whoever made the values knows which is meant.
+                  (4, 4, 5): {(4, 5, 4): '', (5, 4, 4): '; its transpose has that shape'}}
+        for needed, shapes in counts.items():
+            for shape, hint in shapes.items():
+                numbers, text = [1.0] * math.prod(shape), f'vals has shape {shape}, where the counts need {needed}'
+                for width, make in itertools.product(veltzuma.WIDTHS, (
+                        lambda vals, width: veltzuma.MulticubicRegular(needed, [0] * len(needed), [1] * len(needed), vals, width),
+                        lambda vals, width: veltzuma.MulticubicRectilinear(needed, [k for count in needed for k in range(count)], vals, width),
+                        lambda vals, width: veltzuma.MulticubicRectilinear.of_axes(map(range, needed), vals, width))):
+                    self.assertEqual(self.error(make, shaped(numbers, shape, CODE[width]), width), text + hint.format('its transpose'))
+                    self.assertEqual(self.error(make, nested(numbers, shape), width), text + hint.format('list(zip(*vals))'))
+                    hint_of_numpy = re.sub(r'its transpose by \((.*)\)', r'vals.transpose(\1)', hint).replace('its transpose', '{}').format('vals.T')
+                    self.assertEqual(self.error(make, WithT(nested(numbers, shape)), width), text + hint_of_numpy)
+                    if numpy:
+                        vals = numpy.ones(shape)
+                        self.assertEqual(self.error(make, vals, width), text + hint_of_numpy)
+                        if hint:
+                            make(eval(hint_of_numpy[2:].split(' ')[0] if '(' not in hint_of_numpy else hint_of_numpy[2:].split(' has')[0]), width).new()
+
+    def test_wrong_queries(self):
+        grid = veltzuma.MulticubicRegular([4, 5], [0, 0], [1, 1], [1.0] * 20)
+        for shape, hint in (((3, 2), '; {} has that shape'), ((1, 2), '; {} has that shape'), ((3, 3), ''), ((1, 4), ''), ((2, 3, 1), ''), ((1, 2, 3), '')):
+            for call, name in itertools.product((grid.interp, grid.interp_grad), ('{}', 'list(zip(*{}))', '{}.T')):
+                queries = {'{}': shaped, 'list(zip(*{}))': nested, '{}.T': lambda *given: WithT(nested(*given))}[name]([1.0] * math.prod(shape), shape)
+                transpose = 'its transpose' if name == '{}' else name.format('queries')
+                self.assertEqual(self.error(call, queries), f'queries has shape {shape}, where 2 axes need (2, n)' + hint.format(transpose))
+        # What is named is taken.
+        queries = [[1.0, 2.0], [3.0, 1.0], [0.5, 1.5]]
+        self.assertTrue(same(grid.interp(list(zip(*queries))), grid.interp([1.0, 3.0, 0.5, 2.0, 1.0, 1.5]), 'f64'))
+        one = veltzuma.MulticubicRegular(*CUBE)
+        self.assertEqual(self.error(one.interp, [[1.0], [2.0]]), 'queries has shape (2, 1), where 1 axis needs (1, n); list(zip(*queries)) has that shape')
+        self.assertEqual([one.interp(queries).tolist() for queries in ([1.0, 2.0], [[1.0, 2.0]], [array.array('d', [1.0, 2.0])], shaped([1.0, 2.0], (1, 2)))], [[1.0, 8.0]] * 4)
+        # No queries.
+        self.assertEqual([len(call(queries)) for call in (grid.interp, grid.interp_grad) for queries in ([], [[], []], ([], array.array('d')))], [0] * 6)
+        self.assertEqual(self.error(grid.interp, [[]]), 'queries has shape (1, 0), where 2 axes need (2, n)')
+        # What is joined is as it was: a length that is no number of queries is for the library.
+        with self.assertRaises(veltzuma.Refusal) as caught:
+            grid.interp([1.0, 2.0, 3.0])
+        self.assertEqual(str(caught.exception), 'refused 7 (batch): 3 coordinates, where each query on 2 axes has 2')
+
+    def test_ragged(self):
+        grid = veltzuma.MulticubicRegular([4, 5], [0, 0], [1, 1], [1.0] * 20)
+        for queries, told in (([[1, 2], [3]], 'queries is ragged: entry 0 has shape (2,), and entry 1 has shape (1,)'),
+                              ([[1, 2], 3], 'queries is ragged: entry 0 has shape (2,), and entry 1 is a number'),
+                              ([1, array.array('d', [2])], 'queries is ragged: entry 0 is a number, and entry 1 has shape (1,)'),
+                              ([[[1], [2]], [[1], [2, 3]]], 'queries[1] is ragged: entry 0 has shape (1,), and entry 1 has shape (2,)'),
+                              ([array.array('d', [1, 2]), shaped([1, 2], (2, 1))], 'queries is ragged: entry 0 has shape (2,), and entry 1 has shape (2, 1)')):
+            for call in (grid.interp, grid.interp_grad):
+                self.assertEqual(self.error(call, queries), told)
+            self.assertEqual(self.error(grid.interp_one, queries), told.replace('queries', 'x'))
+        rows = nested([1.0] * 20, (4, 5))
+        rows[2].pop()
+        self.assertEqual(self.error(veltzuma.MulticubicRegular, [4, 5], [0, 0], [1, 1], rows), 'vals is ragged: entry 0 has shape (5,), and entry 2 has shape (4,)')
+
+    def test_single(self):
+        """One coordinate for each axis; before the grid is looked at, unless its axis count is refused."""
+        for width, axes in itertools.product(veltzuma.WIDTHS, (1, 2, 3, 4)):
+            of = f'{axes} {"axis" if axes == 1 else "axes"}'
+            for grid in self.grids([4] * axes, self.numbers(4 ** axes, 6), width):
+                x = self.numbers(axes, 7)
+                for call in (grid.interp_one, grid.interp_one_grad, grid.get_loc):
+                    expected = call(x)
+                    for form in (tuple(x), iter(x), array.array('d', x), [[c] for c in x], shaped(x, (axes, 1)), shaped(x, (axes, 1), 'f'), [array.array('f', [c]) for c in x]):
+                        found = call(form)
+                        self.assertEqual(found, expected)
+                        self.assertEqual(getattr(found, 'marks', ()), getattr(expected, 'marks', ()))
+                    for length in {0, 1, 2, 3, 4, 5, 9} - {axes}:
+                        told = f'a query of {length} coordinate{"s" * (length != 1)}, where the grid has {of}'
+                        for wrong in ([1.0] * length, array.array('f', [1.0] * length), iter([math.nan] * length)):
+                            self.assertEqual(self.error(call, wrong), told)
+                    for shape in {(1, axes), (axes, 2), (2, axes), (axes, 1, 1)} - {(axes, 1)}:
+                        self.assertEqual(self.error(call, shaped([1.0] * math.prod(shape), shape)), f'x has shape {shape}, where a query on {of} has shape ({axes},)')
+        refused = veltzuma.MulticubicRegular([4], [0.0], [0.0], CUBE[3])
+        self.assertEqual(self.error(refused.interp_one, [1.0, 2.0]), 'a query of 2 coordinates, where the grid has 1 axis')
+        for axes in (0, 5, 2 ** 63):
+            grid = veltzuma.MulticubicRegular([4] * 5, [0.0] * 5, [1.0] * 5, [1.0] * 1024, axis_count=axes)
+            for call, x in itertools.product((grid.interp_one, grid.interp_one_grad, grid.get_loc), ([], [1.0] * 2, [1.0] * 5)):
+                with self.assertRaises(veltzuma.Refusal) as caught:
+                    call(x)
+                self.assertEqual(caught.exception.number, 1)
+
+    def test_no_dimension(self):
+        """A buffer of no dimension is one number, as it was; a plain number is no list."""
+        grid = veltzuma.MulticubicRegular(*CUBE)
+        for one in (ctypes.c_double(2.0), memoryview(ctypes.c_double(2.0)), memoryview(array.array('d', [2.0])).cast('B').cast('d', [])):
+            self.assertEqual((grid.interp_one(one), grid.interp(one).tolist()), (8.0, [8.0]))
+        for given in (2.0, 2, None):
+            with self.assertRaises(TypeError) as caught:
+                grid.interp_one(given)
+            self.assertEqual(str(caught.exception), f'x: a list or a buffer of numbers is expected, not {type(given).__name__}')
+
+    def test_counts_starts_and_steps(self):
+        for name, wrong, told in (('counts', [[4, 5]], '(1, 2)'), ('counts', shaped([4, 5], (2, 1), 'L'), '(2, 1)'), ('starts', [[0.0, 0.0]], '(1, 2)'),
+                                  ('starts', shaped([0.0, 0.0], (2, 1)), '(2, 1)'), ('steps', shaped([1.0, 1.0], (1, 2), 'f'), '(1, 2)'), ('steps', [[1.0], [1.0]], '(2, 1)')):
+            given = {'counts': [4, 5], 'starts': [0.0, 0.0], 'steps': [1.0, 1.0], 'vals': [1.0] * 20}
+            veltzuma.MulticubicRegular(**given).new()
+            given[name] = wrong
+            self.assertEqual(self.error(veltzuma.MulticubicRegular, **given), f'{name} has shape {told}, where one dimension is needed')
+        self.assertEqual(self.error(veltzuma.MulticubicRectilinear, [[4], [4]], range(8), [1.0] * 16), 'counts has shape (2, 1), where one dimension is needed')
+
+    def test_axes(self):
+        """Joined, or a list of axes that goes with the counts."""
+        first, second = [0.0, 1.0, 2.0, 4.0], [0.0, 1.0, 2.5, 3.0, 9.0]
+        vals, queries = self.numbers(20, 8), self.numbers(10, 9)
+        for width, code in CODE.items():
+            expected = veltzuma.MulticubicRectilinear([4, 5], first + second, vals, width).interp(queries)
+            for axes in ([first, second], (tuple(first), second), iter([first, second]), [array.array('d', first), memoryview(array.array('f', second))],
+                         [array.array(code, first), second]):
+                self.assertTrue(same(veltzuma.MulticubicRectilinear([4, 5], axes, vals, width).interp(queries), expected, width))
+            square = veltzuma.MulticubicRectilinear([4, 4], first + second[1:], vals[:16], width).interp(queries)
+            for axes in ([first, second[1:]], shaped(first + second[1:], (2, 4)), shaped(first + second[1:], (2, 4), code)):
+                self.assertTrue(same(veltzuma.MulticubicRectilinear([4, 4], axes, vals[:16], width).interp(queries), square, width))
+                self.assertTrue(same(veltzuma.MulticubicRectilinear.of_axes(axes, vals[:16], width).interp(queries), square, width))
+        wide = [[0.0, 1.0], [1.0, 2.0], [2.0, 3.0], [3.0, 4.0]]
+        for counts, axes, told in (
+                ([4, 5], [first, first], 'axes has shape (2, 4), where the counts are [4, 5]'), ([4, 5], shaped(first * 2, (2, 4)), 'axes has shape (2, 4), where the counts are [4, 5]'),
+                ([5, 4], [first, second], 'axes is a list of 2 axes of [4, 5] entries, where the counts are [5, 4]'),
+                ([4, 5], [first, second, [0.0]], 'axes is a list of 3 axes of [4, 5, 1] entries, where the counts are [4, 5]'),
+                ([4, 4], wide, 'axes has shape (4, 2), where the counts need (2, 4); list(zip(*axes)) has that shape'),
+                ([4, 4], shaped(sum(wide, []), (4, 2)), 'axes has shape (4, 2), where the counts need (2, 4); its transpose has that shape'),
+                ([4, 4], shaped(first * 2, (2, 4, 1)), 'axes has shape (2, 4, 1), where the counts need (2, 4)'),
+                ([4, 5], [0.0, first], 'axes[0] is a number, where an axis has one dimension'), ([4, 5], [first, [second]], 'axes[1] has shape (1, 5), where an axis has one dimension')):
+            self.assertEqual(self.error(veltzuma.MulticubicRectilinear, counts, axes, [1.0] * math.prod(counts)), told)
+        self.assertEqual(self.error(veltzuma.MulticubicRectilinear.of_axes, [first, [second]], vals), 'axes[1] has shape (1, 5), where an axis has one dimension')
+        with self.assertRaisesRegex(TypeError, r'^axes\[0\]: a list or a buffer of numbers is expected, not float$'):
+            veltzuma.MulticubicRectilinear.of_axes(first, vals)
+
+    def test_out(self):
+        for width, code in CODE.items():
+            grid = veltzuma.MulticubicRegular([4, 5], [0, 0], [1, 1], self.numbers(20, 10), width)
+            queries = self.numbers(6, 11)
+            expected, room = grid.interp_grad(queries), shaped([7.0] * 6, (2, 3), code)
+            self.assertIs(grid.interp_grad(nested(queries, (2, 3)), room), room)
+            self.assertTrue(same([x for row in room.tolist() for x in row], expected, width))
+            for call, shape, needed in ((grid.interp_grad, (3, 2), '(2, 3)'), (grid.interp_grad, (6, 1), '(2, 3)'), (grid.interp_grad, (2, 4), '(2, 3)'),
+                                        (grid.interp_grad, (1, 2, 3), '(2, 3)'), (grid.interp, (1, 3), '(3,)'), (grid.interp, (3, 1), '(3,)'), (grid.interp, (2, 3), '(3,)')):
+                numbers = array.array(code, [7.0] * math.prod(shape))
+                out = memoryview(numbers).cast('B').cast(code, list(shape))
+                told = None
+                try:
+                    call(queries, out)
+                except ValueError as error:
+                    told = error
+                self.assertEqual((str(told), numbers.tolist()), (f'out has shape {shape}, where {needed} is needed', [7.0] * len(numbers)))
+                # The buffers are the caller's again, though the exception is kept.
+                out.release()
+                numbers.append(1.0)
+
+    def test_lent(self):
+        """What is in one piece is lent in any right shape, and a query's buffer is let go."""
+        for width, code in CODE.items():
+            numbers = array.array(code, self.numbers(20, 12))
+            grid = veltzuma.MulticubicRegular([4, 5], [0, 0], [1, 1], memoryview(numbers).cast('B').cast(code, [4, 5]), width)
+            numbers[5 * 2 + 3] = 80.0
+            self.assertEqual(grid.interp_one([2, 3]), 80.0)
+            rows = [array.array(code, [1.0] * 5) for _ in range(4)]
+            grid = veltzuma.MulticubicRegular([4, 5], [0, 0], [1, 1], rows, width)
+            rows[2][3] = 80.0
+            self.assertEqual(grid.interp_one([2, 3]), 1.0)
+            x, kept = array.array(code, [1.0, math.nan]), []
+            for call in (grid.interp_one, grid.interp_one_grad, grid.get_loc, grid.interp):
+                try:
+                    call(x)
+                except veltzuma.Refusal as refusal:
+                    kept.append(refusal)
+            x.append(1.0)
+            for call in (grid.interp_one, grid.interp_one_grad, grid.get_loc):
+                try:
+                    call(x)
+                except ValueError as error:
+                    kept.append(error)
+            x.append(1.0)
+            self.assertEqual(len(kept), 7)
+
+    def test_answers_of_numpy(self):
+        """A batch answers with an array of numpy where the queries are one, or a list of such columns; with a stand-in for the module."""
+        grid = veltzuma.MulticubicRegular([4, 5], [0, 0], [1, 1], [1.0] * 20)
+        column, square = memoryview(array.array('d', [1.0, 2.0])), shaped([1.0, 2.0, 1.0, 2.0], (2, 2))
+        for kind, ours, others in ((memoryview, (square, square[::-1], memoryview(array.array('d', [1.0] * 4)), [column, column], (column, [1.0, 2.0]), iter([column, column])),
+                                    ([1.0] * 4, [[1.0, 2.0], [1.0, 2.0]], array.array('d', [1.0] * 4), [array.array('d', [1.0, 2.0])] * 2)),
+                                   (array.array, (array.array('d', [1.0] * 4), [array.array('f', [1.0, 2.0])] * 2), (square, [column, column], [1.0] * 4))):
+            with mock.patch.dict(sys.modules, numpy=types.SimpleNamespace(ndarray=kind, asarray=lambda made: ('asarray', made))):
+                for queries in ours:
+                    self.assertEqual(grid.interp(queries), ('asarray', array.array('d', [1.0, 1.0])))
+                for queries in others:
+                    self.assertEqual(grid.interp(queries), array.array('d', [1.0, 1.0]))
+                out = array.array('d', [0.0, 0.0])
+                self.assertIs(grid.interp(ours[0], out), out)
+
+
+def flat(entries):
+    for entry in entries:
+        if hasattr(entry, '__len__'):
+            yield from flat(entry.tolist() if hasattr(entry, 'tolist') else entry)
+        else:
+            yield entry
+
+
+def at(rows, index):
+    return functools.reduce(lambda found, i: found[i], index, rows)
+
+
+class WidthOfValues(unittest.TestCase):
+    """Where no width is named it is that of the values."""
+
+    def test_width(self):
+        numbers = CUBE[3]
+        raw = array.array('f', numbers).tobytes()
+        single = {'array': array.array('f', numbers), 'view': memoryview(array.array('f', numbers)), 'read-only': memoryview(raw).cast('f'),
+                  'backwards': memoryview(array.array('f', numbers))[::-1], 'ctypes': (ctypes.c_float * 4)(*numbers),
+                  'big-endian': (ctypes.c_float.__ctype_be__ * 4)(*numbers)}
+        double = {'list': numbers, 'tuple': tuple(numbers), 'iterator': iter(numbers), 'array': array.array('d', numbers), 'view': memoryview(array.array('d', numbers)),
+                  'ctypes': (ctypes.c_double * 4)(*numbers), 'big-endian': (ctypes.c_double.__ctype_be__ * 4)(*numbers), 'whole': array.array('i', [0, 1, 8, 27]),
+                  'empty': [], 'bytes': memoryview(bytes([0, 1, 8, 27]))}
+        for expected, forms in (('f32', single), ('f64', double)):
+            for name, vals in forms.items():
+                made = [veltzuma.MulticubicRegular(*CUBE[:3], vals)]
+                if name != 'iterator':
+                    made += [veltzuma.MulticubicRectilinear([4], range(4), vals), veltzuma.MulticubicRectilinear.of_axes([range(4)], vals)]
+                    # One that is named is taken.
+                    for width in veltzuma.WIDTHS:
+                        self.assertEqual(veltzuma.MulticubicRegular(*CUBE[:3], vals, width).width, width)
+                self.assertEqual({grid.width for grid in made}, {expected}, name)
+        self.assertEqual(veltzuma.MulticubicRegular(*CUBE[:3], single['array']).interp([1.5]).typecode, 'f')
+        rows = [1.0] * 4
+        for vals, expected in ((shaped(rows * 4, (4, 4), 'f'), 'f32'), ([array.array('f', rows)] * 4, 'f32'), ([array.array('f', rows)] * 3 + [rows], 'f64'),
+                               ([array.array('f', rows)] * 3 + [array.array('d', rows)], 'f64'), ([rows] * 4, 'f64'), (shaped(rows * 4, (4, 4)), 'f64')):
+            self.assertEqual(veltzuma.MulticubicRegular([4, 4], [0, 0], [1, 1], vals).width, expected)
+        # Only that of the values.
+        self.assertEqual(veltzuma.MulticubicRegular([4], array.array('f', [0]), array.array('f', [1]), numbers).width, 'f64')
+
+    def test_lent(self):
+        """An array of f32 is lent as it is, since its width is the grid's."""
+        vals = array.array('f', CUBE[3])
+        grid = veltzuma.MulticubicRegular(*CUBE[:3], vals)
+        vals[2] = 80.0
+        self.assertEqual(grid.interp_one([2.0]), 80.0)
+
+
+class WordsOfRefusals(unittest.TestCase):
+    """A refusal says what is wrong with what was given, as it was then."""
+
+    def told(self, call, *given):
+        with self.assertRaises(veltzuma.Refusal) as caught:
+            call(*given)
+        return str(caught.exception)
+
+    def test_of_the_grid(self):
+        nan, ones = math.nan, [1.0] * 20
+        regular, rectilinear = veltzuma.MulticubicRegular, veltzuma.MulticubicRectilinear
+        for width in veltzuma.WIDTHS:
+            for grid, words in (
+                    (regular([4] * 5, [0] * 5, [1] * 5, [1.0]), '1 (axes): 5 axes, where a grid has 1 to 4'), (regular([], [], [], []), '1 (axes): 0 axes, where a grid has 1 to 4'),
+                    (regular([4, 5], [0, 0], [1, 1], ones, axis_count=2 ** 64 - 1), '1 (axes): 18,446,744,073,709,551,615 axes, where a grid has 1 to 4'),
+                    (regular([4, 4097], [0, 0], [1, 1], ones), '2 (size): axis 1 has 4,097 entries, where an axis has at most 4,096'),
+                    (regular([1024, 1025], [0, 0], [1, 1], ones), '2 (size): 1,024 × 1,025 = 1,049,600 points, where a grid has at most 1,048,576'),
+                    (regular([4, 5], [0, 0], [1, 1], ones[1:], width), '3 (mismatch): 19 values, where 4 × 5 = 20 are needed'),
+                    (regular([4], [0], [1], ones[:1], width), '3 (mismatch): 1 value, where 4 are needed'),
+                    # Counts past the axis count are not looked at.
+                    (regular([4, 5, 6], [0] * 2, [1] * 2, ones[1:], width, axis_count=2), '3 (mismatch): 19 values, where 4 × 5 = 20 are needed'),
+                    (regular([4, 5], [0, 0, 0], [1, 1, 1], ones, width, axis_count=3), '3 (mismatch): 2 counts, where there are 3 axes'),
+                    (regular([4, 5], [0], [1, 1], ones, width), '3 (mismatch): 1 start, where there are 2 axes'),
+                    (regular([4, 5], [0, 0], [], ones, width), '3 (mismatch): 0 steps, where there are 2 axes'),
+                    (rectilinear([4, 5], range(8), ones, width), '3 (mismatch): 8 entries on the axes, where 4 + 5 = 9 are needed'),
+                    (rectilinear([4], range(1), ones[:4], width), '3 (mismatch): 1 entry on the axes, where 4 are needed'),
+                    (rectilinear([5, 3], range(8), ones[:15], width), '4 (short): axis 1 has 3 entries, where an axis has at least 4'),
+                    (regular([1], [0], [1], ones[:1], width), '4 (short): axis 0 has 1 entry, where an axis has at least 4'),
+                    (regular([5, 4], [0, 0], [1, -0.1], ones, width), '5 (not rising): axis 1: its step, -0.1, is not above 0'),
+                    (regular([5, 4], [0, 0], [nan, 1], ones, width), '5 (not rising): axis 0: its step, nan, is not above 0'),
+                    (rectilinear([5, 4], [0, 1, 2, 3, 4, 0.3, 0.3, 2, 3], ones, width), '5 (not rising): axis 1, entry 1: 0.3 is not above the entry before it, 0.3'),
+                    (rectilinear([5, 4], [0, 1, 2, 3, 4, 0, 1, 3.4, 3.2], ones, width), '6 (disorder): axis 1, entry 3: 3.2 is below the entry before it, 3.4'),
+                    (rectilinear([5, 4], [0, 1, nan, 3, 4, 0, 1, 2, 3], ones, width), '6 (disorder): axis 0, entry 2 is not a number, nan'),
+                    (rectilinear([5, 4], [0, 1, 2, 2, 2, 0, 1, 1, 2], ones, width), '10 (flat): axis 0, entry 3: 2 equals the entry before it'),
+                    (rectilinear([4, 5], [0, 1, 2, 3, -1, -0.5, -0.0, 0.0, 1], ones, width), '10 (flat): axis 1, entry 3: 0 equals the entry before it, -0')):
+                self.assertEqual(self.told(grid.new), 'refused ' + words)
+                x = [1.0] * min(grid.axis_count, 5)
+                for call in (grid.interp_one, grid.interp_one_grad, grid.get_loc, grid.interp, grid.interp_grad):
+                    self.assertEqual(self.told(call, x), 'refused ' + words)
+
+    def test_of_a_query(self):
+        """The coordinate, start and step of the query and axis that are refused."""
+        inf, nan = math.inf, math.nan
+        for width in veltzuma.WIDTHS:
+            grid = veltzuma.MulticubicRegular([4, 5], [0.5, -3.25], [0.1, 2], [1.0] * 20, width)
+            other = veltzuma.MulticubicRectilinear([4, 5], [0, 1, 2, 3, 0, 1, 2, 3, 4], [1.0] * 20, width)
+            unplaceable = 'is not a finite number from -2^63 to below 2^63'
+            for x, words in (([1, inf], f'8 (unplaceable): axis 1: (inf - -3.25) / 2 {unplaceable}'), ([-1e30, nan], f'8 (unplaceable): axis 0: (-1e+30 - 0.5) / 0.1 {unplaceable}'),
+                             ([1, nan], '9 (missing): axis 1: no reading (nan)'), ([nan, inf], '9 (missing): axis 0: no reading (nan)')):
+                for call in (grid.interp_one, grid.interp_one_grad, grid.get_loc):
+                    self.assertEqual(self.told(call, x), 'refused ' + words)
+                # Among other queries, each of another number.
+                for k in (0, 3):
+                    columns = [[0.25 + i for i in range(5)], [8.25 + i for i in range(5)]]
+                    columns[0][k], columns[1][k] = x
+                    columns[1][4] = nan
+                    for call, queries in itertools.product((grid.interp, grid.interp_grad), (columns, columns[0] + columns[1])):
+                        self.assertEqual(self.told(call, queries), 'refused ' + words.replace('axis', f'query {k}, axis'))
+            self.assertEqual(self.told(other.interp, [[1, 1, 1], [1, 1, nan]]), 'refused 9 (missing): query 2, axis 1: no reading (nan)')
+            self.assertEqual(self.told(other.get_loc, [nan, 1]), 'refused 9 (missing): axis 0: no reading (nan)')
+        far = [0.5] * 5000
+        far[4321] = nan
+        self.assertEqual(self.told(veltzuma.MulticubicRegular(*CUBE).interp, far), 'refused 9 (missing): query 4321, axis 0: no reading (nan)')
+
+    def test_of_a_batch(self):
+        for width, code in CODE.items():
+            grid = veltzuma.MulticubicRegular([4, 5], [0, 0], [1, 1], [1.0] * 20, width)
+            for call, queries, room, words in (
+                    (grid.interp, 3, None, '3 coordinates, where each query on 2 axes has 2'), (grid.interp_grad, 1, None, '1 coordinate, where each query on 2 axes has 2'),
+                    (grid.interp, 6, 2, 'out has 2 entries, where 3 are needed'), (grid.interp, 2, 0, 'out has 0 entries, where 1 is needed'),
+                    (grid.interp_grad, 6, 3, 'out has 3 entries, where 2 × 3 = 6 are needed'), (grid.interp_grad, 6, 1, 'out has 1 entry, where 2 × 3 = 6 are needed')):
+                out = None if room is None else array.array(code, [0.0] * room)
+                self.assertEqual(self.told(call, [1.0] * queries, out), 'refused 7 (batch): ' + words)
+            self.assertEqual(self.told(grid.interp, array.array(code, bytes(2 * (veltzuma.MAX_QUERIES + 1) * array.array(code).itemsize))),
+                             'refused 7 (batch): 1,048,577 queries, where a batch has at most 1,048,576')
+            for mode in (3, 255):
+                for call in (grid.interp_one, grid.interp_one_grad, grid.get_loc):
+                    self.assertEqual(self.told(call, [1.0, 1.0], mode), f'refused 3 (mismatch): mode {mode}, where 0 to 2 are taken')
+                for call in (grid.interp, grid.interp_grad):
+                    self.assertEqual(self.told(call, [1.0, 1.0], None, mode), f'refused 3 (mismatch): mode {mode}, where 0 to 2 are taken')
+
+    def test_of_the_moment(self):
+        """What is lent may change after the refusal: the words are of what was refused. And they hold no buffer of the query."""
+        for width, code in CODE.items():
+            axes, steps, starts = array.array(code, [0, 1, 2, 2]), array.array(code, [0.0]), array.array(code, [0.0])
+            kept = []
+            for grid in (veltzuma.MulticubicRectilinear([4], axes, CUBE[3], width), veltzuma.MulticubicRegular([4], starts, steps, CUBE[3], width)):
+                try:
+                    grid.new()
+                except veltzuma.Refusal as refusal:
+                    kept.append(refusal)
+            axes[3], steps[0], x = 1.0, 1.0, array.array(code, [math.inf])
+            try:
+                grid.interp_one(x)
+            except veltzuma.Refusal as refusal:
+                kept.append(refusal)
+            x[0], steps[0], starts[0] = 0.0, 5.0, 7.0
+            x.append(1.0)
+            self.assertEqual([refusal.words for refusal in kept], ['axis 0, entry 3: 2 equals the entry before it', 'axis 0: its step, 0, is not above 0',
+                                                                   'axis 0: (inf - 0) / 1 is not a finite number from -2^63 to below 2^63'])
+
+    def test_without_words(self):
+        """A refusal that is made by hand has words by its number."""
+        said = {1: 'axes): the number of axes is not 1 to 4', 2: 'size): an axis has more than 4,096 entries, or the grid more than 1,048,576 points',
+                3: 'mismatch): the lengths of what is given do not go together, or the mode is above 2', 4: 'short): axis 1 has fewer than 4 entries',
+                5: 'not rising): axis 1: its step is not above 0, or entry 1 is not above entry 0',
+                6: 'disorder): axis 1: an entry is not a number, or below the entry before it', 7: 'batch): more than 1,048,576 queries, or a buffer of the wrong length',
+                8: 'unplaceable): query 5000, axis 1: a coordinate that has no place', 9: 'missing): query 5000, axis 1: no reading',
+                10: 'flat): axis 1: an entry equals the entry before it', 11: 'unknown): query 5000, axis 1'}
+        for number, words in said.items():
+            for made in (veltzuma.Refusal(number, 5000, 1), veltzuma.Refusal(number, 5000, 1, lambda: None)):
+                self.assertEqual((str(made), made.args), (f'refused {number} ({words}', (number, 5000, 1)))
+        self.assertEqual(set(said) - {11}, set(veltzuma.REFUSALS))
+
+    def test_when_they_are_made(self):
+        """On demand, and once; copies have them."""
+        asked = []
+        made = veltzuma.Refusal(4, 0, 1, lambda: asked.append(1) or 'as it was')
+        made.number_of_the_line = 7
+        self.assertEqual(asked, [])
+        self.assertEqual((str(made), str(made), made.words, asked), ('refused 4 (short): as it was', 'refused 4 (short): as it was', 'as it was', [1]))
+        for again in (copy.copy(made), copy.deepcopy(made), *(pickle.loads(pickle.dumps(made, protocol)) for protocol in range(pickle.HIGHEST_PROTOCOL + 1))):
+            self.assertEqual((type(again), str(again), again.args, again.number_of_the_line), (veltzuma.Refusal, str(made), (4, 0, 1), 7))
+        self.assertEqual(veltzuma.Refusal(4, 0, 1, 'given').words, 'given')
+        # A call that is refused asks for none.
+        grid = veltzuma.MulticubicRectilinear([4], [0, 1, 2, 2], CUBE[3])
+        with mock.patch.object(veltzuma.Words, 'flat', return_value='asked') as flat_words, self.assertRaises(veltzuma.Refusal) as caught:
+            grid.new()
+        flat_words.assert_not_called()
+        self.assertEqual(str(caught.exception), 'refused 10 (flat): asked')
+        flat_words.assert_called_once_with(0, array.array('d', [0, 1, 2, 2]))
+
+    def test_as_the_tool_says_them(self):
+        """Of a table and of its grid, but for the names."""
+        from table_tool import files, words
+        nan = math.nan
+        cases = [('regular', [4, 5], [[0, 0], [1, 0]], 20), ('regular', [4, 3], [[0, 0], [1, 1]], 12), ('regular', [4, 4097], [[0, 0], [1, 1]], 1),
+                 ('regular', [1024, 1025], [[0, 0], [1, 1]], 1), ('regular', [4, 5], [[0, 0], [1, 1]], 15), ('regular', [4] * 5, [[0] * 5, [1] * 5], 1),
+                 ('rectilinear', [4, 4], [[0, 1, 2, 3], [0.1, 0.1, 2, 3]], 16), ('rectilinear', [4, 4], [[0, 1, 2, 3], [0, 1, 0.1, 3]], 16),
+                 ('rectilinear', [4, 4], [[0, nan, 2, 3], [0, 1, 2, nan]], 16), ('rectilinear', [4, 4], [[0, 1, 2, 3], [-1, -0.1, -0.1, 3]], 16)]
+        numbers = set()
+        for width, (kind, counts, parts, length) in itertools.product(veltzuma.WIDTHS, cases):
+            lines = ['veltzuma table 1', 'title: t', f'kind: {kind}']
+            for i, count in enumerate(counts):
+                lines += [f'axis: a{i}', 'unit: 1'] + ([f'start: {parts[0][i]}', f'step: {parts[1][i]}', f'count: {count}'] if kind == 'regular'
+                                                       else ['entries: ' + ','.join(map(str, parts[i]))])
+            lines += ['value: v', 'unit: 1', 'values:'] + [','.join(['1'] * min(counts[-1], length))] * max(1, length // counts[-1])
+            found = files.read_table('t', width, ('\n'.join(lines) + '\n').encode())
+            grid = (veltzuma.MulticubicRegular(counts, *parts, [1.0] * length, width) if kind == 'regular'
+                    else veltzuma.MulticubicRectilinear(counts, sum(parts, []), [1.0] * length, width))
+            with self.assertRaises(veltzuma.Refusal) as caught:
+                grid.new()
+            told = re.sub(r'axis (\d)', r"axis \1 'a\1'", str(caught.exception)).replace('a grid has', 'a table has')
+            self.assertEqual(words.of_grid(found, caught.exception)[1], told)
+            numbers.add(caught.exception.number)
+        self.assertEqual(numbers, {1, 2, 3, 4, 5, 6, 10})
+        for width in veltzuma.WIDTHS:
+            found = files.read_table('t', width, b'veltzuma table 1\nkind: regular\naxis: a0\nunit: 1\nstart: 0.1\nstep: 0.3\ncount: 4\nvalue: v\nunit: 1\nvalues:\n1,2,3,4\n')
+            grid = veltzuma.MulticubicRegular([4], [0.1], [0.3], [1, 2, 3, 4], width)
+            for x in ([math.inf], [1e30], [nan]):
+                with self.assertRaises(veltzuma.Refusal) as caught:
+                    grid.interp_one(x)
+                self.assertEqual(words.of_query(found, caught.exception, array.array(CODE[width], x)), str(caught.exception).replace('axis 0', "axis 0 'a0'"))
+
+    def test_numbers_as_the_tool_writes_them(self):
+        from table_tool import floats
+        chosen = random.Random(22)
+        for width, code in CODE.items():
+            word = 'Q' if code == 'd' else 'I'
+            for _ in range(4000):
+                number = array.array(code, array.array(word, [chosen.getrandbits(64 if code == 'd' else 32)]).tobytes())[0]
+                short = array.array(code, [float('%.*g' % (chosen.randrange(1, 8), chosen.uniform(-1e3, 1e3)))])[0]
+                for x in (number, short, -0.0, math.inf, 16777216.0):
+                    self.assertEqual(veltzuma._shown(x, width), floats.show(x, width))
+
+
+class OfTheModule(unittest.TestCase):
+    def test_repr(self):
+        library = veltzuma.load(LIBRARY)
+        for made, said in (
+                (veltzuma.MulticubicRegular(*CUBE), "MulticubicRegular(counts=[4], starts=[0.0], steps=[1.0], vals=<4 values>, width='f64')"),
+                (veltzuma.MulticubicRegular([4, 5], [0.1, -math.inf], [1e30, math.nan], array.array('f', [1.0])),
+                 "MulticubicRegular(counts=[4, 5], starts=[0.1, -inf], steps=[1e+30, nan], vals=<1 value>, width='f32')"),
+                (veltzuma.MulticubicRectilinear([4, 5], range(9), range(20)), "MulticubicRectilinear(counts=[4, 5], axes=<9 entries>, vals=<20 values>, width='f64')"),
+                (veltzuma.MulticubicRectilinear([], [], [], axis_count=5), "MulticubicRectilinear(counts=[], axes=<0 entries>, vals=<0 values>, width='f64', axis_count=5)"),
+                (veltzuma.MulticubicRegular(range(2000), range(2000), range(9), range(3000), 'f32'),
+                 "MulticubicRegular(counts=<2,000 counts>, starts=<2,000 numbers>, steps=<9 numbers>, vals=<3,000 values>, width='f32')"),
+                (library, f'Library({LIBRARY!r})'), (veltzuma.MulticubicRegular(*CUBE).interp_one([1.5]), '3.375'),
+                (veltzuma.MulticubicRegular(*CUBE).interp_one_grad([1.5]), '[6.25]'), (veltzuma.Refusal(4, 0, 1), 'Refusal(4, 0, 1)')):
+            self.assertEqual(repr(made), said)
+        # Of what is lent, as it is now.
+        steps = array.array('d', [1.0])
+        grid = veltzuma.MulticubicRegular([4], [0.0], steps, CUBE[3])
+        steps[0] = 0.5
+        self.assertIn('steps=[0.5]', repr(grid))
+
+    def test_hints(self):
+        """Every public function and method says what it takes and what it gives, and each hint can be read."""
+        seen = set()
+        for name in veltzuma.__all__ + ['Words', 'product_words']:
+            thing = getattr(veltzuma, name)
+            functions = {name: thing} if inspect.isfunction(thing) else {}
+            if inspect.isclass(thing):
+                typing.get_type_hints(thing)
+                for base in thing.__mro__:
+                    if base.__module__ == 'veltzuma':
+                        functions.update({f'{name}.{method}': getattr(found, '__func__', None) or getattr(found, 'fget', None) or found for method, found in vars(base).items()
+                                          if (method in ('__init__', '__new__', '__repr__', '__str__', '__reduce__') or not method.startswith('_'))
+                                          and isinstance(found, (types.FunctionType, property, classmethod, staticmethod))})
+                if issubclass(thing, tuple):
+                    self.assertEqual(set(typing.get_type_hints(thing)), set(thing._fields))
+                    continue
+            for of, function in functions.items():
+                hints = typing.get_type_hints(function)
+                parameters = [parameter for parameter in inspect.signature(function).parameters if parameter not in ('self', 'cls')]
+                self.assertEqual([parameter for parameter in parameters + ['return'] if parameter not in hints], [], of)
+                seen.add(of)
+        for of in ('load', 'product_words', 'Library.__init__', 'Library.call', 'Refusal.__init__', 'Refusal.words', 'Value.__new__', 'Gradient.__init__', 'Words.flat',
+                   *(f'{kind}.{method}' for kind in ('MulticubicRegular', 'MulticubicRectilinear')
+                     for method in ('__init__', 'axis_count', 'new', 'get_loc', 'interp_one', 'interp_one_grad', 'interp', 'interp_grad')), 'MulticubicRectilinear.of_axes'):
+            self.assertIn(of, seen)
+        for name in ('MulticubicRegular', 'MulticubicRectilinear'):
+            self.assertIs(inspect.signature(getattr(veltzuma, name)).parameters['width'].default, None)
 
 
 if __name__ == '__main__':

@@ -1,7 +1,9 @@
 """veltzuma eval: every number against the library's own bits, asked straight; refused queries; long files."""
+import array
 import csv
 import io
 import itertools
+import math
 import os
 import pty
 import random
@@ -12,7 +14,7 @@ import unittest
 
 from support import Direct, InFolder, MARKS, MODES, SAMPLES, LARGEST, TOOL, bits, c_number, run, table, text_of
 import veltzuma
-from table_tool import evaluate, files
+from table_tool import evaluate, files, floats
 
 REGULAR = table([('flow', -1.5, 0.1, 7), ('heat', 10, 4, 5)], lambda i, j: i * 3.7 - j * j / 7, 'regular')
 RECTILINEAR = table([('flow', [-1.5, 0, 0.1, 3, 8]), ('heat', [10, 11.3, 11.4, 20]), ('head', [-4, 0, 1, 2, 5])], lambda i, j, k: i * j - k * k / 3)
@@ -176,6 +178,131 @@ class Answers(InFolder):
         self.assertEqual((status, out.count('\n'), err), (0, 1, ''))
 
 
+class Batches(InFolder):
+    """What is answered in batches is what each query answers alone, wherever the batches end."""
+
+    def near(self, found):
+        """Coordinates at the ends of places on an axis, and beside them in its width, some far away, and some that are refused."""
+        width, chosen, columns = found.width, random.Random(23), []
+        for axis in found.axes:
+            near = [floats.in_order(floats.order(entry, width) + beside, width) for entry in axis.entries for beside in (-2, -1, 0, 1, 2)]
+            span = axis.entries[-1] - axis.entries[0]
+            columns.append(near + [floats.round_to(chosen.uniform(axis.entries[0] - span, axis.entries[-1] + span), width) for _ in range(60)]
+                           + [0.0, -0.0, 1e30, -1e30, math.inf, -math.inf, math.nan])
+        return [[chosen.choice(column) for column in columns] for _ in range(1500)]
+
+    def test_each_alone(self):
+        odd = table([('a', -0.3, 0.1, 9), ('b', 1000000, 0.01, 6)], lambda i, j: i * 3.7 - j * j / 7, 'regular')
+        for text in (REGULAR, RECTILINEAR, odd, text_of(LARGEST)):
+            for width, mode in itertools.product(('f64', 'f32'), MODES):
+                found, grid = files.read_table(self.write(text), width), direct(text, width)
+                queries = self.near(found)
+                numbers = array.array(floats.CODE[width], [coordinate for x in queries for coordinate in x])
+                for size in (7, 1500):
+                    out, size = io.StringIO(), size * len(found.axes)
+                    refused = evaluate.write(found, found.grid(veltzuma.load()), [numbers[i:i + size] for i in range(0, len(numbers), size)], mode, False, False, out)
+                    rows = read(out.getvalue())[1]
+                    self.assertEqual(len(rows), len(queries))
+                    for x, row in zip(queries, rows):
+                        alone = grid.one(x, mode)
+                        cells = [floats.show(number, width) for number in x]
+                        if len(alone) == 2:
+                            refused -= 1
+                            self.assertEqual(row[:-1], cells + [''] * (1 + 4 * len(x)))
+                            self.assertIn(f'refused {alone[0]} (', row[-1])
+                            continue
+                        cells += [floats.show(number, width) for number in [alone[0]] + alone[1]]
+                        cells += [str(cell) for pair in zip(alone[2], alone[3]) for cell in pair] + alone[4] + ['']
+                        self.assertEqual(row, cells, (x, mode, width))
+                    self.assertEqual(refused, 0)
+
+    def test_as_before(self):
+        """As each query was asked before there were batches of lines."""
+        for text, width, mode in itertools.product((REGULAR, RECTILINEAR), ('f64', 'f32'), MODES):
+            found = files.read_table(self.write(text), width)
+            grid, queries = found.grid(veltzuma.load()), self.near(found)[:500]
+            given = '\n'.join(','.join(floats.show(number, width) for number in x) for x in queries).encode()
+            rows = read(run('eval', self.write(text), '--mode', mode, '--width', width, stdin=given)[1])[1]
+            for row, (x, value, slopes, places, refusal) in zip(rows, evaluate.answers(found, grid, queries, mode)):
+                self.assertEqual(row[len(x):2 * len(x) + 1], [''] * (1 + len(x)) if refusal else [floats.show(number, width) for number in [*value, *slopes]])
+                self.assertEqual(row[-1], refusal or '')
+                if not refusal:
+                    self.assertEqual(row[2 * len(x) + 1:-1], [str(cell) for place in places for cell in place[:2]]
+                                     + ['below' if place.below else 'above' if place.above else '' for place in places])
+
+    def test_values(self):
+        """The value alone, beside the refusal; as decimals and as bits."""
+        for text, bad in ((REGULAR, 'inf,3'), (RECTILINEAR, '1,nan,2')):
+            path, found = self.write(text), files.read_table(self.write(text), 'f64')
+            lines = [','.join(map(repr, x)) for x in self.near(found)[:300]] + [bad, ','.join(['1'] * text.count('axis:'))]
+            for mode, width, more in itertools.product(MODES, ('f64', 'f32'), ([], ['--hex'])):
+                words = ['eval', path, '--mode', mode, '--width', width, *more]
+                status, whole, _ = run(*words, stdin='\n'.join(lines).encode())
+                found = run(*words, '--values', stdin='\n'.join(lines).encode())
+                at = text.count('axis:')
+                self.assertEqual(found[1].split('\n')[0], 'volume,refusal')
+                self.assertEqual(read(found[1])[1], [[row[at], row[-1]] for row in read(whole)[1]])
+                self.assertEqual((found[0], found[2]), (status, ''))
+
+    def test_as_the_stream_has_them(self):
+        """Lines may come in any pieces, with what is no query between them; each is read once, and a bad line is told by its number."""
+        class Pieces(io.BytesIO):
+            def read1(self, size):
+                return super().read1(min(size, chosen.randrange(1, most)))
+
+        chosen = random.Random(6)
+        lines = [f'{chosen.uniform(-9, 9)!r},{chosen.randrange(9)}' for _ in range(2000)]
+        found = files.read_table(self.write(REGULAR), 'f64')
+        expected = [float(field) for line in lines for field in line.split(',')]
+        for i, more in ((0, 'flow,heat'), (700, '# a note'), (701, ''), (1200, ' \t'), (1500, '"1.5", 2'), (1501, ' 3 ,\t4')):
+            lines.insert(i, more)
+        numbers = expected[:2 * 1496] + [1.5, 2.0, 3.0, 4.0] + expected[2 * 1496:]
+        for most, end in itertools.product((3, 100, 30000, 1 << 20), ('', '\n')):
+            parts = list(files.Queries('q', Pieces('\n'.join(lines).encode() + end.encode()), found))
+            self.assertEqual([number for part in parts for number in part], numbers)
+            parts = []
+            with self.assertRaises(files.BadInput) as told:
+                for part in files.Queries('q', Pieces('\n'.join(lines + ['1,2', '1,2,3', '1,2']).encode()), found):
+                    parts += part
+            self.assertEqual((str(told.exception).split(': ')[0], parts), (f'q:{len(lines) + 2}', numbers + [1.0, 2.0]))
+
+    def test_texts_as_they_are(self):
+        """What is shown of the queries is the same where their texts are at hand, with refused ones between them."""
+        chosen, refused = random.Random(24), set()
+        path = self.write(table([('a', 0, 0.00001, 9), ('b', -20, 10, 6)], lambda i, j: i * 3.7 - j * j / 7, 'regular'))
+        plain = [lambda: '%.*f' % (chosen.randrange(3), chosen.uniform(-99, 99)), lambda: str(chosen.randrange(-999, 999)),
+                 lambda: chosen.choice(('0', '-0.0', '5.'))]
+        odd = plain + [lambda: chosen.choice(('1e3', '+7', '.25', '007', '0.00001', '123456789012345678', 'nan', 'inf')), lambda: repr(chosen.uniform(-99, 99))]
+        for width, far in (('f64', '999999999999999'), ('f32', '')):
+            found = files.read_table(path, width)
+            for made, size in itertools.product((plain, odd), (1, 10, 3000)):
+                lines = [(far if far and chosen.random() < 0.01 else chosen.choice(made)()) + ',' + chosen.choice(made)() for _ in range(3000)]
+                parts = [part for i in range(0, 3000, size) for part in files.Queries('q', io.BytesIO(('\n'.join(lines[i:i + size]) + '\n').encode()), found)]
+                self.assertEqual({hasattr(part, 'texts') for part in parts}, {True})
+                outs = []
+                for given in (parts, [array.array(part.typecode, part) for part in parts]):
+                    out = io.StringIO()
+                    refused.add(min(evaluate.write(found, found.grid(veltzuma.load()), given, 'cubic', False, False, out), 1))
+                    outs.append(out.getvalue())
+                self.assertEqual(*outs)
+                self.assertEqual([row[:2] for row in read(outs[0])[1]],
+                                 [[floats.show(floats.parse(field, width), width) for field in line.split(',')] for line in lines])
+        self.assertEqual(refused, {0, 1})
+
+    def test_answers_come_with_their_queries(self):
+        """A program that waits for each answer before it asks again gets it."""
+        process = subprocess.Popen([sys.executable, '-S', '-B', TOOL, 'eval', LARGEST, '--values'], stdin=subprocess.PIPE, stdout=subprocess.PIPE)
+        for i in range(3):
+            process.stdin.write(b'55,31.5,-120\n')
+            process.stdin.flush()
+            if not i:
+                self.assertEqual(process.stdout.readline(), b'delivery,refusal\n')
+            self.assertRegex(process.stdout.readline(), rb'^[0-9.]+,\n$')
+        process.stdin.close()
+        self.assertEqual((process.stdout.read(), process.wait()), (b'', 0))
+        process.stdout.close()
+
+
 class Refused(InFolder):
     """A refused query has its own line, and those around it their answers."""
 
@@ -241,17 +368,37 @@ class Refused(InFolder):
 
 class LongFiles(InFolder):
     def test_bounded_memory(self):
-        """A file eight times as long takes no more memory, by the system's own count."""
-        peaks = []
-        for count in (10000, 80000):
-            queries = self.write('33.25,37.125,80.5\n' * count, f'{count}.csv')
-            with open(os.devnull, 'w') as nothing:
-                process = subprocess.Popen([sys.executable, '-S', TOOL, 'eval', LARGEST, '--queries', queries], stdout=nothing)
-                _, status, used = os.wait4(process.pid, 0)
-            process.returncode = os.waitstatus_to_exitcode(status)
-            self.assertEqual(process.returncode, 0)
-            peaks.append(used.ru_maxrss)
-        self.assertLess(peaks[1] - peaks[0], 6144, peaks)
+        """A file four times as long takes no more memory, by the system's own count; all of its queries are different."""
+        # Told by the process itself: what is told of it from outside begins with the memory of whoever started it.
+        code = f"""if True:
+            import re, runpy, sys
+            sys.argv[0] = {TOOL!r}
+            try:
+                runpy.run_path(sys.argv[0], run_name='__main__')
+            finally:
+                with open('/proc/self/status') as told:
+                    print(re.search(r'VmHWM:\\s*(\\d+) kB', told.read())[1], file=sys.stderr)"""
+        for more in ([], ['--values']):
+            peaks = []
+            for count in (100000, 400000):
+                path = os.path.join(self.folder, 'q.csv')
+                with open(path, 'w') as queries:
+                    for i in range(count):
+                        queries.write(f'{i / 4096 % 97},{i / 1024 % 43},{i / 512 % 700 - 250}\n')
+                done = subprocess.run([sys.executable, '-S', '-B', '-c', code, 'eval', LARGEST, '--queries', path, *more], stdout=subprocess.DEVNULL, stderr=subprocess.PIPE)
+                self.assertEqual(done.returncode, 0, done.stderr)
+                peaks.append(int(done.stderr))
+            self.assertLess(peaks[1] - peaks[0], 2048, peaks)
+
+    def test_few_single_calls(self):
+        """Between two queries of one place none is asked alone: the calls grow with the places, not with the queries."""
+        found, chosen = files.read_table(LARGEST, 'f64'), random.Random(4)
+        grid, asked = found.grid(veltzuma.load()), []
+        get_loc = grid.get_loc
+        grid.get_loc = lambda x, mode: asked.append(x) or get_loc(x, mode)
+        numbers = array.array('d', [chosen.uniform(-300, 500) for _ in range(3 * 100000)])
+        evaluate.write(found, grid, [numbers[i:i + 9000] for i in range(0, len(numbers), 9000)], 'cubic', False, False, io.StringIO())
+        self.assertLess(len(asked), 1500)
 
     def test_progress_on_a_terminal_alone(self):
         master, slave = pty.openpty()

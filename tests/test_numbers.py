@@ -1,4 +1,5 @@
 """Numbers as text: read by one rounding, written so that they read back to the same bits. The C library's strtod and strtof are the judges."""
+import array
 import math
 import random
 import struct
@@ -42,6 +43,60 @@ class Numbers(unittest.TestCase):
                     self.assertEqual(support.bits(floats.parse(text, width), width), support.bits(support.c_number(text, width), width))
         # The cases are hard ones: rounded by way of f64, some differ.
         self.assertGreater(sum(floats.to_f32(float(text)) != floats.parse(text, 'f32') for text in texts), 200)
+
+    def test_many_at_once(self):
+        """As each by itself."""
+        texts = [sign + text for text in self.near_middles() for sign in ('', '-')]
+        texts += ['0', '-0', ' 1.5\t', '.5', '5.', '1e-400', '1e400', '16777217', '0.1', 'inf', '-Infinity', 'nan', '1e-45', '7.006492321624085e-46', '1.17549428e-38']
+        for width in ('f64', 'f32'):
+            self.assertEqual([support.bits(x, width) for x in floats.parse_all(texts, width)], [support.bits(floats.parse(text, width), width) for text in texts])
+            for text in ('', ' ', 'e5', 'in', '1 2', '--1', '1.5.2', 'nan1', 'aaa'):
+                self.assertEqual(text.encode().translate(None, floats.LETTERS), b'')
+                with self.assertRaises(ValueError):
+                    floats.parse_all(['1', text], width)
+        chosen = random.Random(18)
+        words = [0, 1 << 31, 1, 0x7f800000, 0xff800000, 0x7fc00000] + [exponent << 23 for exponent in range(255)] + [chosen.getrandbits(32) for _ in range(20000)]
+        numbers = array.array('f', array.array('I', words).tobytes())
+        self.assertEqual(floats.show_f32(numbers), [floats.show(x, 'f32') for x in numbers])
+        self.assertEqual(floats.show_f32(array.array('f')), [])
+
+    def test_one_that_the_text_decides(self):
+        """Among others that need no second look it is found, whatever it is; so are numbers that f32 has no full digits for."""
+        for text in [*self.near_middles(), '1e-45', '7.006492321624085e-46', '1.17549428e-38', '-1e-40', '0', '-0', '1e-400']:
+            self.assertEqual([support.bits(x, 'f32') for x in floats.parse_all(['1.5', text, '0.1'], 'f32')],
+                             [support.bits(support.c_number(one, 'f32'), 'f32') for one in ('1.5', text, '0.1')], text[:60])
+        chosen = random.Random(21)
+        for digits in (5, 6, 7, 8, 12):
+            numbers = array.array('f', [float('%.*g' % (digits, chosen.uniform(-1, 1) * 10.0 ** chosen.randrange(-30, 38))) for _ in range(3000)])
+            self.assertEqual(floats.show_f32(numbers), [floats.show(x, 'f32') for x in numbers])
+
+    def test_as_shown(self):
+        """Plain texts are shown as they are but for zeros behind; one that is not plain is found among others."""
+        chosen = random.Random(22)
+        for width, most in (('f64', 15), ('f32', 6)):
+            texts = ['0', '-0', '0.0', '-0.000', '10', '100.', '-20.50', '0.0001', '7.0000', '1' * most,
+                     '-' + '9' * most, '9' * (most - 1) + '.9', '0.' + '3' * (most - 1)]
+            for _ in range(5000):
+                whole = str(chosen.randrange(10 ** chosen.randrange(most)))
+                point = chosen.randrange(most - len(whole) + 1)
+                texts.append(chosen.choice(('', '-')) + whole + ('.' + '%0*d' % (point, chosen.randrange(10 ** point)) if point else chosen.choice(('', '.'))))
+            texts = [text for text in texts if not text.lstrip('-').startswith('0.0000')]
+            self.assertEqual(floats.as_shown(texts, width), [floats.show(floats.parse(text, width), width) for text in texts])
+            for text in ('+1', '00', '01', '-01.5', '00.5', '.5', '-.5', '0.00001', '-0.00001', '0.0000', '1e5', '1E5', 'inf', 'nan', ' 1', '1\t', '1' * (most + 1),
+                         '-1.' + '3' * most, '0.' + '3' * most):
+                for beside in ([], ['1.5'], ['0', '0']):
+                    self.assertIsNone(floats.as_shown(beside + [text] + beside, width), (text, width))
+
+    def test_order(self):
+        """Neighbours stand one apart, through both zeros, up to the infinities."""
+        for width, size in (('f64', 5e-324), ('f32', 2.0 ** -149)):
+            self.assertEqual([floats.order(x, width) for x in (-size, -0.0, 0.0, size)], [-1, 0, 0, 1])
+            most = floats.order(math.inf, width)
+            self.assertEqual([floats.in_order(place, width) for place in (most, -most, most - 1)], [math.inf, -math.inf, floats.GREATEST[width]])
+            for place in (1, 12345, most // 2, most - 1):
+                for side in (place, -place):
+                    self.assertEqual(floats.order(floats.in_order(side, width), width), side)
+            self.assertEqual(floats.in_order(floats.order(1.0, 'f64') + 1, 'f64'), math.nextafter(1.0, 2.0))
 
     def test_nan_is_a_number(self):
         for text in ('nan', 'NaN', '-nan', '+NAN'):

@@ -1,6 +1,9 @@
-"""veltzuma nodes, plot, report and diff: what they say, draw and write."""
+"""veltzuma nodes, plot and report: what they say, draw and write."""
+import array
 import hashlib
 import html.parser
+import itertools
+import math
 import os
 import re
 import subprocess
@@ -8,11 +11,21 @@ import sys
 import unittest
 import xml.etree.ElementTree
 
-from support import InFolder, LARGEST, LIBRARY, SAMPLES, TOP, run, run_process, table, text_of
+from support import bits, Direct, InFolder, LARGEST, LIBRARY, MODES, SAMPLES, TOP, run, run_process, table, text_of
+from table_tool import floats, plot, report
 import veltzuma
 
 SVG = '{http://www.w3.org/2000/svg}'
 EVIL = 'a<script>alert(1)</script>&"\'--> x'
+# The widths of the letters of DejaVu Sans from U+0020 on, in thousandths of their size: it is wider than Helvetica and Arial.
+PLAIN = [318, 401, 460, 838, 636, 950, 780, 275, 390, 390, 500, 838, 318, 361, 318, 337, *[636] * 10, 337, 337, 838, 838, 838, 531, 1000, 684, 686, 698, 770,
+         632, 575, 775, 752, 295, 295, 656, 557, 863, 748, 787, 603, 787, 695, 635, 611, 732, 684, 989, 685, 611, 685, 390, 337, 390, 838, 500, 500, 613, 635,
+         550, 635, 615, 352, 635, 634, 278, 278, 579, 278, 974, 634, 612, 635, 635, 411, 521, 392, 634, 592, 818, 592, 592, 525, 636, 337, 636, 838]
+BOLD = [348, 456, 521, 838, 696, 1002, 872, 306, 457, 457, 523, 838, 380, 415, 380, 365, *[696] * 10, 400, 400, 838, 838, 838, 580, 1000, 774, 762, 734, 830,
+        683, 683, 821, 837, 372, 372, 775, 637, 995, 837, 850, 733, 850, 770, 720, 682, 812, 774, 1103, 771, 724, 725, 457, 365, 457, 838, 500, 500, 675, 716,
+        593, 716, 678, 435, 716, 712, 343, 343, 665, 343, 1042, 712, 687, 716, 716, 493, 595, 478, 712, 652, 924, 645, 652, 582, 712, 365, 712, 838]
+FAR = {'−': 838, '…': 1000, '°': 500, '\u00b7': 318}
+LONG = 'a name of an axis that is as long as any may be, which is eighty characters in a'
 RAMP = table([('a', [0, 1, 2, 3]), ('b', [0, 10, 20, 30, 45])], lambda i, j: i * 100 + j)
 
 
@@ -75,11 +88,351 @@ class Nodes(InFolder):
         self.assertIn('alone: 0 of 16', out)
 
 
+class Box:
+    """From where to where something goes in a drawing."""
+
+    def __init__(self, left, top, right, bottom):
+        self.left, self.top, self.right, self.bottom = left, top, right, bottom
+
+    def __repr__(self):
+        return f'{self.left:.1f} to {self.right:.1f}, {self.top:.1f} to {self.bottom:.1f}'
+
+    def within(self, other):
+        return other.left <= self.left and self.right <= other.right and other.top <= self.top and self.bottom <= other.bottom
+
+    def apart(self, other):
+        return self.right <= other.left or other.right <= self.left or self.bottom <= other.top or other.bottom <= self.top
+
+
+def box_of(rect):
+    left, top, width, height = (float(rect.get(name, 0)) for name in ('x', 'y', 'width', 'height'))
+    return Box(left, top, left + width, top + height)
+
+
+class Drawing:
+    """What stands where in a picture, in its own units."""
+
+    def __init__(self, root):
+        self.root = root
+        self.whole = Box(0, 0, *map(float, root.get('viewBox').split()[2:]))
+        self.frames = [box_of(rect) for rect in root.iter(SVG + 'rect') if rect.get('fill') == 'none' and rect.get('height') == '300']
+        self.shaded = [box_of(rect) for rect in root.iter(SVG + 'rect') if (rect.get('fill') or '').startswith('url(') and rect.get('height') == '300']
+        self.dots = [(float(dot.get('cx')), float(dot.get('cy')), float(dot.get('r'))) for dot in root.iter(SVG + 'circle')
+                     if dot.get('fill') != 'none' and dot.get('stroke')]
+        # Of each panel's curve, the pieces.
+        self.curves = [[[tuple(map(float, place.split())) for place in re.findall(r'[ML]([0-9. -]+)', piece)] for piece in re.findall('M[^M]*', group[0].get('d'))]
+                       for group in root.iter(SVG + 'g')]
+        # Level texts with their places, and those that stand upwards.
+        self.texts, self.upright = [], []
+        for text in root.iter(SVG + 'text'):
+            said = ''.join(text.itertext()) if not len(text) else text[0].tail
+            size, x, y = float(text.get('font-size', 13)), float(text.get('x')), float(text.get('y'))
+            wide = sum(FAR.get(letter, 1100) if not letter.isascii() else (BOLD if text.get('font-weight') else PLAIN)[ord(letter) - 32] for letter in said) * size / 1000
+            left = x - wide * {'start': 0, 'middle': 0.5, 'end': 1}[text.get('text-anchor', 'start')]
+            if text.get('transform'):
+                # About the place of the first line: a line below it is one to the right of it.
+                first = float(text.get('transform').split()[2][:-1])
+                self.upright.append((said, Box(x + y - first - 0.8 * size, first - wide / 2, x + y - first + 0.25 * size, first + wide / 2)))
+            else:
+                self.texts.append((said, Box(left, y - 0.8 * size, left + wide, y + 0.25 * size)))
+
+    def across(self):
+        """The labels along the axis."""
+        return [(said, box) for said, box in self.texts if abs(box.bottom - 0.25 * 13 - self.frames[-1].bottom - 19) < 0.1]
+
+    def beside(self, frame):
+        """The labels beside a frame."""
+        return [(said, box) for said, box in self.texts if box.right <= frame.left and frame.top - 20 < box.top < frame.bottom + 10]
+
+    def marks(self, filled=True):
+        """The marks at the edges of the frames: where their points are, and whether upwards."""
+        found = []
+        for path in self.root.iter(SVG + 'path'):
+            mark = re.fullmatch(r'M([0-9.-]+) ([0-9.-]+)l-[57] (-?)[0-9.]+h1[04]z', path.get('d'))
+            if mark and (path.get('fill') != 'none') == filled and any(frame.top <= float(mark[2]) <= frame.bottom for frame in self.frames):
+                found.append((float(mark[1]), float(mark[2]), not mark[3]))
+        return found
+
+
+def contrast(one, other):
+    """How far two colours are from each other, as the guidelines for accessible pages count it: from 1 to 21."""
+    def light(colour):
+        parts = [int(colour[k:k + 2], 16) / 255 for k in (1, 3, 5)]
+        return sum(weight * (part / 12.92 if part <= 0.04045 else ((part + 0.055) / 1.055) ** 2.4) for weight, part in zip((0.2126, 0.7152, 0.0722), parts))
+    low, high = sorted((light(one), light(other)))
+    return (high + 0.05) / (low + 0.05)
+
+
+def number_of(label):
+    return float(label.replace('−', '-'))
+
+
 class Plot(InFolder):
     def drawn(self, *words):
         path = os.path.join(self.folder, 'out.svg')
-        self.assertEqual(run('plot', *words, '-o', path), (0, '', ''))
-        return xml.etree.ElementTree.parse(path).getroot()
+        self.assertEqual(run('plot', *words, '-o', path), (0, f'written: {path}\n', ''))
+        root = xml.etree.ElementTree.parse(path).getroot()
+        self.room(Drawing(root), words)
+        return root
+
+    def room(self, found, words):
+        """Every text has its room; the curve stays across the frame, no more than its height past it, and is clipped to it."""
+        for said, box in found.texts + found.upright:
+            self.assertTrue(box.within(found.whole), (said, box, words))
+        for (one, box), (other, second) in itertools.combinations(found.texts + found.upright, 2):
+            self.assertTrue(box.apart(second), (one, box, other, second, words))
+        for _, box in found.upright:
+            self.assertTrue(any(frame.top <= box.top and box.bottom <= frame.bottom for frame in found.frames), (box, words))
+        self.assertGreaterEqual(len(found.across()), 2 if len(found.frames) else 0, words)
+        clips = {clip.get('id'): box_of(clip[0]) for clip in found.root.iter(SVG + 'clipPath')}
+        self.assertEqual([repr(clip) for clip in clips.values()], [repr(frame) for frame in found.frames])
+        for group, curve in zip(found.root.iter(SVG + 'g'), found.curves):
+            clip = clips[re.fullmatch(r'url\(#(.+)\)', group.get('clip-path'))[1]]
+            for x, y in itertools.chain(*curve):
+                self.assertTrue(clip.left - 0.01 <= x <= clip.right + 0.01 and clip.top - 300.01 <= y <= clip.bottom + 300.01, (x, y, words))
+        for (x, y, radius), (a, b, _) in itertools.combinations(found.dots, 2) if len(found.dots) < 500 else ():
+            self.assertGreaterEqual(math.hypot(x - a, y - b), 2 * radius + 0.97, words)
+        for x, y, _ in found.dots:
+            self.assertTrue(found.frames[0].left <= x <= found.frames[0].right and found.frames[0].top < y < found.frames[0].bottom, words)
+
+    def level(self, found, frame, number, low, high):
+        """The height at which a number stands in a frame of that range."""
+        return frame.bottom - (number - low) / (high - low) * (frame.bottom - frame.top)
+
+    def test_range_of_what_lies_inside(self):
+        """The frame is as high as the stored points and the answers inside the span, and 6 parts of a hundred more on either side, whatever the line does outside."""
+        for values, entries in (([0, 1, 8, 27], None), ([0, 1, 0, 1, 0, 400], None), ([5, 3, 2, -9, 1e6, 3], None), ([1, 2, 4, 3], [-1, 0, 10, 11])):
+            kind = 'rectilinear' if entries else 'regular'
+            axis = ('a', entries) if entries else ('a', 0, 1, len(values))
+            grid = Direct(kind, [len(values)], [entries] if entries else [[0.0], [1.0]], values, 'f64')
+            first, last = (entries[0], entries[-1]) if entries else (0, len(values) - 1)
+            for mode in MODES:
+                found = Drawing(self.drawn(self.write(table([axis], [values], kind)), '--along', 'a', '--mode', mode, '--slope'))
+                low, high = first - 0.15 * (last - first), last + 0.15 * (last - first)
+                xs = [low + (high - low) * k / 480 for k in range(481)]
+                inside = [grid.one([x], mode) for x in xs + (entries or list(range(len(values)))) if first <= x <= last]
+                for frame, curve, numbers in zip(found.frames, found.curves, ([one[0] for one in inside] + values, [one[1][0] for one in inside])):
+                    least, most = min(numbers), max(numbers)
+                    room = 0.06 * (most - least)
+                    for label, box in found.beside(frame):
+                        y = (box.top + 0.8 * 13) - 4
+                        self.assertAlmostEqual(y, self.level(found, frame, number_of(label), least - room, most + room), delta=0.02, msg=(values, mode, label))
+                    self.assertGreater(len(found.beside(frame)), 2)
+                    # Inside the span the curve never leaves the frame.
+                    for x, y in itertools.chain(*curve):
+                        if found.shaded[0].right <= x <= found.shaded[1].left:
+                            self.assertTrue(frame.top < y < frame.bottom, (x, y))
+
+    def test_leaving_the_range(self):
+        """A mark where the line leaves the frame, and the farthest answer beside it; none where it does not leave."""
+        values = [0, 1, 0, 1, 0, 400]
+        grid = Direct('regular', [6], [[0.0], [1.0]], values, 'f64')
+        path = self.write(table([('a', 0, 1, 6)], [values], 'regular'))
+        for mode in MODES:
+            root = self.drawn(path, '--along', 'a', '--mode', mode)
+            found, said = Drawing(root), [said for said, _ in Drawing(root).texts]
+            frame = found.frames[0]
+            if mode == 'held':
+                self.assertEqual(found.marks(), [])
+                self.assertNotIn('leaves the range', said)
+                continue
+            (x, y, up), = found.marks()
+            self.assertEqual((y, up), (frame.top + 2, True))
+            # Where the line crosses the edge.
+            crossing = next(b[0] for a, b in zip(found.curves[0][0], found.curves[0][0][1:]) if a[1] >= frame.top > b[1])
+            self.assertAlmostEqual(x, crossing, delta=3)
+            self.assertGreater(x, found.shaded[1].left)
+            self.assertIn('to %.4g' % grid.one([5.75], mode)[0], said)
+            self.assertIn('leaves the range', said)
+            # The word is inside the frame and on no dot.
+            word = next(box for text, box in found.texts if text.startswith('to '))
+            self.assertTrue(word.within(frame))
+            for a, b, radius in found.dots:
+                self.assertTrue(word.apart(Box(a - radius, b - radius, a + radius, b + radius)))
+        # Downwards, and on both sides.
+        found = Drawing(self.drawn(self.write(table([('a', 0, 1, 4)], [[-27, 0, 0, -27]], 'regular')), '--along', 'a'))
+        self.assertEqual([(y, up) for _, y, up in found.marks()], [(found.frames[0].bottom - 2, False)] * 2)
+        self.assertLess(found.marks()[0][0], found.shaded[0].right)
+        self.assertGreater(found.marks()[1][0], found.shaded[1].left)
+        # In as many digits as it takes to see that it is past the frame.
+        found = Drawing(self.drawn(self.write(table([('a', 0, 1, 4)], [['1e15', '1000000000000001', '1000000000000002', '1000000000000003']], 'regular')), '--along', 'a'))
+        told = [number_of(said[3:]) for said, _ in found.texts if said.startswith('to ')]
+        self.assertEqual(len(told), 2)
+        self.assertTrue(told[0] < 1e15 - 0.18 and told[1] > 1e15 + 3.18, told)
+
+    def test_farther_than_any_drawing(self):
+        """Past the ends the cubic reaches 1e300 and more: the line is cut off a frame's height past the frame, on its way there."""
+        grid = Direct('rectilinear', [4], [[0, 1, 2, 3]], [0, 1, 8, 27], 'f64')
+        for at, edge, mode in (('30', 34.5, 'cubic'), ('1e300', 1.15e300, 'straight')):
+            found = Drawing(self.drawn(self.write(table([('a', [0, 1, 2, 3])], [[0, 1, 8, 27]])), '--along', 'a', '--at', at, '--slope', '--mode', mode))
+            self.assertEqual([len(found.frames), len(found.curves)], [2, 2])
+            frame, heights = found.frames[0], [y for _, y in itertools.chain(*found.curves[0])]
+            self.assertAlmostEqual(min(heights), frame.top - 300, delta=0.02)
+            self.assertIn('to ' + ('%.4g' % grid.one([edge], mode)[0]).replace('e+', 'e'), [said for said, _ in found.texts])
+
+    def test_dots_do_not_touch(self):
+        """However many points are stored; the ends, the lowest and the highest have a dot, and the legend says how many have."""
+        cases = [([k for k in range(count)], [math.sin(k / count * 9) + (k == count // 3) * 5 for k in range(count)]) for count in (5, 60, 90, 400, 4096)]
+        cases.append(([0, 1, 1.001, 1.002, 5, 9.999, 10], [1, 2, 2, 2, 3, 1, 1.0001]))
+        shown = []
+        for entries, values in cases:
+            found = Drawing(self.drawn(self.write(table([('a', entries)], [values])), '--along', 'a'))
+            shown.append((len(found.dots), found.dots[0][2]))
+            frame, said = found.frames[0], [said for said, _ in found.texts]
+            self.assertIn('stored points' + (f', {len(found.dots):,} of {len(entries):,}' if len(found.dots) < len(entries) else ''), said)
+            near = sorted(found.dots)
+            for k, (x, y, radius) in enumerate(near):
+                for a, b, _ in near[k + 1:k + 12]:
+                    self.assertGreaterEqual(math.hypot(x - a, y - b), 2 * radius + 0.97)
+            low, high = found.shaded[0].right, found.shaded[1].left
+            self.assertAlmostEqual(near[0][0], low, delta=0.02)
+            self.assertAlmostEqual(near[-1][0], high, delta=0.02)
+            for pick, y in ((max, min(y for _, y, _ in found.dots)), (min, max(y for _, y, _ in found.dots))):
+                x, = {x for x, b, _ in found.dots if b == y}
+                entry = entries[values.index(pick(values))]
+                self.assertAlmostEqual(x, low + (high - low) * (entry - entries[0]) / (entries[-1] - entries[0]), delta=0.02)
+        # All of them while there is room, in three sizes; then as many as have room.
+        self.assertEqual(shown[:3], [(5, 4), (60, 3), (90, 2)])
+        self.assertEqual([radius for _, radius in shown[3:]], [2, 2, 2])
+        self.assertTrue(80 < shown[3][0] < 400 and 80 < shown[4][0] < 400, shown)
+        self.assertEqual(shown[5][0], 4)
+
+    def test_labels_have_room(self):
+        """Long labels, names, titles and units: `drawn` holds that each has its room, and what is cut has the whole as its title."""
+        for name, bold in ((PLAIN, False), (BOLD, True)):
+            for k, wide in enumerate(name):
+                self.assertGreaterEqual(plot.text_width(chr(32 + k), 1000, bold), wide, chr(32 + k))
+        lefts = {}
+        for case, entries, values in (('short', [0, 1, 2, 3], [1, 2, 3, 4]), ('huge', ['-1.7e308', 0, '1e308', '1.7e308'], ['1.7e308', '-1.7e308', '1e308', 0]),
+                                      ('fine', ['1e15', '1.000000000000001e15', '1.000000000000002e15', '1.000000000000003e15'],
+                                       ['-1000000000000000', '-1000000000000001', '-1000000000000002', '-1000000000000005']),
+                                      ('negative', ['-1.2345678e-7', 0, '1e-7', '1.2e-7'], ['-1.23456789012e-300', '1e-300', '2e-300', '2.5e-300'])):
+            for more in ([], ['--slope'], ['--at', '1e-7', '--slope']):
+                found = Drawing(self.drawn(self.write(table([('a', entries)], [values])), '--along', 'a', *more))
+                for frame in found.frames:
+                    for said, box in found.beside(frame):
+                        self.assertGreaterEqual(box.left, max(upright.right for _, upright in found.upright), (case, said))
+            lefts[case] = found.frames[0].left
+        self.assertGreater(lefts['fine'], lefts['short'] + 50)
+        whole = 'A title ' * 40 + 'to its end'
+        text = table([(LONG, [0, 1, 2, 3]), ('W' * 80, [0, 1, 2, 3])], lambda i, j: i * j, title=whole, unit='W' * 200)
+        for along in '01':
+            root = self.drawn(self.write(text), '--along', along, '--slope', '--at', '1.3333333333333333,1e-300')
+            titles = [found.text for found in root.iter(SVG + 'title')]
+            self.assertIn(whole, titles)
+            self.assertIn('volume, ' + 'W' * 200, titles)
+            self.assertGreaterEqual(len([said for said, _ in Drawing(root).texts if said.endswith('…')]), 1)
+            self.assertEqual(titles[0], f'volume along {[LONG, "W" * 80][int(along)]}')
+
+    def test_ticks(self):
+        """Round numbers, in order, of one form, as many as asked for and one more at most; exact in any range."""
+        from fractions import Fraction
+        for low, high, labels in ((0, 1, ['0', '0.2', '0.4', '0.6', '0.8', '1.0']), (-3, 11, ['−2', '0', '2', '4', '6', '8', '10']),
+                                  (-1.7e308, 1.7e308, ['−1.5e308', '−1e308', '−5e307', '0', '5e307', '1e308', '1.5e308']),
+                                  (0, 5e-324, ['0', '1e−324', '2e−324', '3e−324', '4e−324']), (250, 420, ['250', '300', '350', '400']),
+                                  (1234567, 1234568, ['1234567.0', '1234567.2', '1234567.4', '1234567.6', '1234567.8', '1234568.0'])):
+            self.assertEqual([label for _, label in plot.ticks(Fraction(low), Fraction(high))], labels)
+        for low, high in itertools.combinations([Fraction(x) for x in (-1.7e308, -1e15, -3, -1e-9, -5e-324, 0, 1e-320, 0.3, 7, 1e15, 1e15 + 1, 1.7e308)], 2):
+            for most in range(1, 10):
+                found = plot.ticks(low, high, most)
+                self.assertTrue(len(found) <= most + 1 and all(low <= number <= high for number, _ in found), (low, high, most))
+                self.assertEqual([Fraction(label.replace('−', '-')) for _, label in found], [number for number, _ in found])
+                self.assertGreaterEqual(len(found), math.floor(most / 2.5), (low, high, most))
+
+    def test_breaks_have_a_word(self):
+        values = [1, 2, 3, 4, 5, 'nan', 7, 8, 9, 10, 11, 'inf']
+        root = self.drawn(self.write(table([('a', list(range(12)))], [values])), '--along', 'a')
+        found = Drawing(root)
+        said = [said for said, _ in found.texts]
+        self.assertEqual([said.count(word) for word in ('nan', '−inf, nan, inf', 'no number is answered', 'stored points, 10 of 12')], [1, 1, 1, 1])
+        # Where the curve is broken there is a bar, and the word is above it.
+        pieces = [piece for piece in found.curves[0] if len(piece) > 1]
+        self.assertEqual(len(pieces), 2)
+        bars = [re.fullmatch(r'M([0-9.]+) ([0-9.]+)H([0-9.]+)', path.get('d')) for path in root.iter(SVG + 'path') if path.get('stroke-width') == '3']
+        bars = [(float(bar[1]), float(bar[3])) for bar in bars if float(bar[2]) < found.frames[0].bottom]
+        self.assertEqual(len(bars), 2)
+        self.assertTrue(pieces[0][-1][0] < bars[0][0] + 2 and bars[0][1] - 2 < pieces[1][0][0], (bars, pieces[0][-1], pieces[1][0]))
+        self.assertLess(bars[0][0] - pieces[0][-1][0], 3)
+        word = next(box for text, box in found.texts if text == 'nan')
+        self.assertTrue(bars[0][0] < word.left and word.right < bars[0][1] and word.within(found.frames[0]))
+        # Nowhere a number: that is said, and there is no scale to read one from.
+        for values in (['nan'] * 4, ['inf'] * 4):
+            found = Drawing(self.drawn(self.write(table([('a', [0, 1, 2, 3])], [values])), '--along', 'a', '--slope'))
+            self.assertEqual([len(found.beside(frame)) for frame in found.frames], [0, 0])
+            self.assertEqual(sum(any(box.within(frame) for frame in found.frames) for text, box in found.texts if text == 'no number is answered'), 2)
+        # Along an axis whose queries are all refused.
+        found = Drawing(self.drawn(self.write(table([('a', 'nan', 1, 4)], [[1, 2, 3, 4]], 'regular')), '--along', '0'))
+        self.assertEqual(found.curves, [])
+
+    def test_level(self):
+        """A table of one number is drawn as one level, and what rounding adds is not made to fill the frame."""
+        for value, low, high in ((3.3, 2.97, 3.63), (0, -1, 1), (-1e300, -1.1e300, -0.9e300), ('5e-324', None, None)):
+            root = self.drawn(self.write(table([('a', [0, 1, 2.3, 3])], [[value] * 4])), '--along', 'a', '--slope')
+            found = Drawing(root)
+            for frame, curve in zip(found.frames, found.curves):
+                middle = (frame.top + frame.bottom) / 2
+                self.assertTrue(all(abs(y - middle) < 0.02 for _, y in itertools.chain(*curve)), value)
+            if low is not None:
+                frame = found.frames[0]
+                for label, box in found.beside(frame):
+                    self.assertAlmostEqual(box.top + 0.8 * 13 - 4, self.level(found, frame, number_of(label), low, high), delta=0.02)
+            self.assertEqual(found.marks(), [])
+        # Stored points that differ by a unit are no noise.
+        found = Drawing(self.drawn(self.write(table([('a', [0, 1, 2, 3])], [['1', '1.0000000000000002', '1', '1']])), '--along', 'a'))
+        self.assertGreater(found.dots[0][1] - found.dots[1][1], 50)
+
+    def test_outside_on_another_axis(self):
+        """Then every query of the line is outside, and all the ground is shaded."""
+        for at, said in (('7,12.5', '(above the last entry)'), ('-1,12.5', '(below the first entry)'), ('3,12.5', None), ('0,-100', None)):
+            root = self.drawn(self.write(RAMP), '--along', 'b', '--at', at)
+            found = Drawing(root)
+            self.assertEqual(len(found.shaded), 2 if said is None else 1)
+            text = ''.join(root.itertext())
+            self.assertEqual([word in text for word in ('(above the last entry)', '(below the first entry)')],
+                             [said == '(above the last entry)', said == '(below the first entry)'])
+            if said:
+                self.assertEqual(repr(found.shaded[0]), repr(found.frames[0]))
+
+    def test_infinite_ends(self):
+        """An axis whose last entry is infinite has no end there: nothing of what is drawn lies past it."""
+        found = Drawing(self.drawn(self.write(table([('a', [0, 1, 2, 'inf'])], [[1, 2, 3, 4]])), '--along', 'a'))
+        self.assertEqual(len(found.shaded), 1)
+        self.assertEqual(found.shaded[0].left, found.frames[0].left)
+
+    def test_asked_past_the_frame(self):
+        """It has an open mark at the edge in place of the ring, and the legend says so."""
+        path = self.write(table([('a', 0, 1, 6)], [[0, 1, 0, 1, 0, 400]], 'regular'))
+        for at, edge, said in (('9', 'top', 'asked at 9: 6010, past the frame'), ('4.5', None, 'asked at 4.5: 149.875'), ('5', None, 'asked at 5: 400')):
+            root = self.drawn(path, '--along', 'a', '--at', at)
+            found = Drawing(root)
+            self.assertIn(said, [text for text, _ in found.texts])
+            self.assertEqual(len(self.circles(root, True)), 0 if edge else 2)
+            self.assertEqual([(y, up) for _, y, up in found.marks(False)], [(found.frames[0].top + 2, True)] if edge else [])
+        low, high = found.shaded[0].right, found.shaded[1].left
+        x, = [x for x, _, _ in Drawing(self.drawn(path, '--along', 'a', '--at', '9')).marks(False)]
+        self.assertTrue(low < x < found.frames[0].right)
+
+    def test_light_and_dark(self):
+        """Each thing that has a colour has one on a dark ground too, that can be told from it; without styles, and on paper, it is black on white."""
+        root = self.drawn(self.write(RAMP), '--along', 'b', '--at', '1,77', '--slope')
+        style = root.find(SVG + 'style').text
+        wrapped = re.fullmatch(r'@media screen and \(prefers-color-scheme: dark\) \{\n(.*)\n\}', style, re.S)
+        dark = {}
+        for name, what, colour in re.findall(r'\.veltzuma(?: \.(\w+))? \{ (fill|stroke): (#[0-9a-f]{6}) \}', wrapped[1]):
+            dark[name, what] = colour
+        self.assertEqual(len(dark), wrapped[1].count('{'))
+        self.assertEqual((root.get('class'), root.get('fill')), ('veltzuma', '#000'))
+        for found in root.iter():
+            for what in ('fill', 'stroke'):
+                if found is not root and (found.get(what) or '').startswith('#'):
+                    self.assertIn((found.get('class'), what), dark, found.attrib)
+        ground = dark['ground', 'fill']
+        self.assertEqual(dark['rim', 'stroke'], ground)
+        for name, light in ((('', 'fill'), '#000000'), (('line', 'stroke'), '#000000')):
+            self.assertGreater(contrast(dark[name], ground), 12)
+            self.assertGreater(contrast(light, '#ffffff'), 12)
+        self.assertGreater(contrast(dark['', 'fill'], dark['hatch', 'stroke']), 4.5)
+        self.assertGreater(contrast(dark['hatch', 'stroke'], dark['shade', 'fill']), 1.5)
 
     def circles(self, root, hollow):
         return [found for found in root.iter(SVG + 'circle') if (found.get('fill') == 'none') == hollow]
@@ -149,7 +502,7 @@ class Plot(InFolder):
     def test_text_is_escaped(self):
         root = self.drawn(self.write(table([(EVIL, [0, 1, 2, 3])], [[1, 2, 3, 4]], unit=EVIL)), '--along', '0')
         self.assertIn(f'volume along {EVIL}', ''.join(root.itertext()))
-        self.assertEqual([found.tag for found in root.iter() if found.tag not in {SVG + name for name in ('svg', 'title', 'defs', 'pattern', 'rect', 'path', 'text', 'circle')}], [])
+        self.assertEqual([found.tag for found in root.iter() if found.tag not in {SVG + name for name in ('svg', 'title', 'style', 'defs', 'pattern', 'clipPath', 'g', 'rect', 'path', 'text', 'circle')}], [])
 
     def test_numbers_at_the_edge(self):
         for values in (['nan'] * 4, ['inf', '-inf', 1, 2], ['1.7e308', '-1.7e308', '1e308', 0], ['5e-324', 0, 0, '1e-323'], [3, 3, 3, 3]):
@@ -194,23 +547,27 @@ class Readme(InFolder):
     def test_picture(self):
         words = re.search(r'\./veltzuma (plot .*) -o (docs/\S+\.svg)', self.TEXT)
         path = os.path.join(self.folder, 'again.svg')
-        self.assertEqual(run_process(*words[1].split(), '-o', path, cwd=TOP), (0, '', ''))
+        self.assertEqual(run_process(*words[1].split(), '-o', path, cwd=TOP), (0, f'written: {path}\n', ''))
         self.assertEqual(text_of(path), text_of(os.path.join(TOP, words[2])))
 
 
 class _Page(html.parser.HTMLParser):
-    """What tags a page has, whether they are closed in order, and its text."""
+    """What tags a page has, whether they are closed in order, and its text; the tags with their classes in order; and what each table stands in."""
     VOID = ('meta', 'br')
 
     def __init__(self, text):
         super().__init__()
         self.tags, self.open, self.text, self.wrong, self.links = set(), [], [], [], []
+        self.order, self.around = [], []
         self.feed(text)
         self.close()
         self.wrong += self.open
 
     def handle_starttag(self, tag, attrs):
         self.tags.add(tag)
+        if tag == 'table':
+            self.around.append(self.order[-1])
+        self.order.append((tag, dict(attrs).get('class')))
         self.links += [value for name, value in attrs if name in ('src', 'href', 'xlink:href', 'action', 'data') or name.startswith('on')]
         if tag not in self.VOID:
             self.open.append(tag)
@@ -227,10 +584,29 @@ class _Page(html.parser.HTMLParser):
         self.text.append(data)
 
 
+def _rules(text):
+    """What the page's own style says of each thing that it names, outside of media and pages."""
+    style = re.sub(r'@(media|page)[^{]*\{(?:[^{}]*\{[^{}]*\})*[^{}]*\}', '', text[text.index('<style>') + 7:text.index('</style>')])
+    found = {}
+    for names, rules in re.findall(r'([^{}]+)\{([^{}]*)\}', style):
+        for name in names.split(','):
+            found.setdefault(' '.join(name.split()), {}).update(tuple(map(str.strip, rule.split(':', 1))) for rule in rules.split(';') if ':' in rule)
+    return found
+
+
+def _boxed(text):
+    """What stands in the margin of each printed page."""
+    page = re.search(r'@page \{.*\}', text)[0]
+    found = re.findall(r'@([a-z]+-[a-z]+) \{ content: ([^;]*);', page)
+    return {where: re.sub(r'\\([0-9a-f]{6})', lambda letter: chr(int(letter[1], 16)), what[1:-1]) if what.startswith('"') else what for where, what in found}
+
+
 class Report(InFolder):
     def page(self, path, status=0, *more):
         out = os.path.join(self.folder, 'out.html')
-        self.assertEqual(run('report', path, '-o', out, *more), (status, '', ''))
+        found = run('report', path, '-o', out, *more)
+        # What is refused is said on standard error too.
+        self.assertEqual((*found[:2], bool(found[2])), (status, f'written: {out}\n', status == 1))
         text = text_of(out)
         page = _Page(text)
         self.assertEqual(page.wrong, [])
@@ -251,10 +627,10 @@ class Report(InFolder):
             # Each stored figure, in the file's order.
             figures = [float(cell) for cell in re.findall(r'<td>([0-9.e+-]+)</td>', text[text.index('Stored figures'):])]
             stored = [float(cell) for line in source.split('values:\n')[1].split('\n') if line and line[0] != '#' for cell in line.split(',')]
-            across = len(re.findall('<th>', re.search(r'class="figures".*?</thead>', text, re.S)[0]))
-            self.assertEqual(sorted(figures), sorted(stored))
-            if source.count('axis:') == 1 or across > len(source.split('values:\n')[1].split('\n')[-2].split(',')):
-                self.assertEqual(figures, stored)
+            # A whole row stands side by side on paper.
+            self.assertEqual(len(re.findall('<th scope="col">', re.search(r'class="figures".*?</thead>', text, re.S)[0])),
+                             len(source.split('values:\n')[1].split('\n')[-2].split(',')))
+            self.assertEqual(figures, stored)
             for section in ('What is proved about every answer', 'docs/SPECIFICATION.md 8.5', 'docs/EVIDENCE.md', 'Not proved'):
                 self.assertIn(section, said)
             self.assertIn('refuses with one of ten numbers', said)
@@ -295,9 +671,142 @@ class Report(InFolder):
         self.assertNotIn('<svg', text)
         for entries, told in (([1, 1.00000001, 2, 3], "5 (not rising): axis 0 'a', entry 1: 1 is not above the entry before it, 1"),
                               ([0, 1, 1.00000001, 3], "10 (flat): axis 0 'a', entry 2: 1.00000001 and the entry before it, 1, are both 1 in f32")):
-            text, said = self.page(self.write(table([('a', entries)], [[1, 2, 3, 4]])), 0)
+            text, said = self.page(self.write(table([('a', entries)], [[1, 2, 3, 4]])), 1)
             self.assertIn('Taken in f64 alone', said)
             self.assertIn(f'f32 line 6: refused {told} –', said)
+
+    def test_verdict_comes_first(self):
+        """Before the notes and anything else; of a refused table the name in the browser and on paper says so too."""
+        for entries, status, boxed, begins, named in (
+                ([0, 1, 2, 3], 0, 'verdict', 'Taken in both widths, and within', 'A table'), ([0, 1, 3, 2], 1, 'verdict refused', 'Refused: no query', 'Refused: A table'),
+                ([0, 1, 1.00000001, 3], 1, 'verdict refused', 'Taken in f64 alone. Refused in f32: no query is answered there.', 'A table')):
+            text, said = self.page(self.write(table([('a', entries)], [[1, 2, 3, 4]], notes=['a note'])), status)
+            order = [found for found in _Page(text).order if found[0] not in ('html', 'head', 'meta', 'title', 'style', 'body')]
+            self.assertEqual(order[:2], [('h1', None), ('p', boxed)])
+            self.assertLess(text.index(f'<p class="{boxed}">{begins}'), text.index('<p>a note</p>'))
+            self.assertIn(f'<title>{named}</title>', text)
+            self.assertEqual(_boxed(text)['top-left'], named)
+            if begins.startswith('Refused'):
+                self.assertEqual(said.count('This table is refused, so nothing is answered at its stored points.'), 2)
+                self.assertNotIn('Stored points, asked', said)
+
+    def test_points_that_are_off(self):
+        """How many stored points do not answer their own number, in each width, the largest distance in units in the last place, and where."""
+        values, start, step = [1.1, 2.2, 3.3, 4.7, 5.9, 7.3, 8.8, 9.1, 2.2], 0.3, 0.1
+        _, said = self.page(self.write(table([('a', start, step, 9)], [values], 'regular')))
+        for width in ('f64', 'f32'):
+            def rounded(x):
+                return array.array('f' if width == 'f32' else 'd', [x])[0]
+
+            stored = [rounded(number) for number in values]
+            grid = Direct('regular', [9], [[rounded(start)], [rounded(step)]], stored, width)
+            for mode in MODES:
+                found = {}
+                for k, number in enumerate(stored):
+                    answer = grid.one([rounded(rounded(start) + rounded(rounded(step) * k))], mode)[0]
+                    if answer != number:
+                        found[k] = abs(int(bits(answer, width), 16) - int(bits(number, width), 16)), answer
+                self.assertTrue(found)
+                worst = max(found, key=lambda k: (found[k][0], -k))
+                units, answer = found[worst]
+                self.assertRegex(said, rf'{width} (each setting|[a-z, ]*{mode}[a-z, ]*) {9 - len(found)} of 9 {len(found)}, by at most {units} units? in the last place '
+                                 rf'\(entries {worst}: stores {values[worst]}, answers {re.escape(floats.show(answer, width))}\) 0')
+        # None of them, and those that answer no number.
+        self.assertEqual(self.page(LARGEST)[1].count('each setting 756 of 756 0 0'), 2)
+        _, said = self.page(self.write(table([('a', list(range(9)))], [['nan', 2, 3, 4, 5, 6, 7, 8, 9]])))
+        self.assertEqual(said.count('each setting 6 of 9 0 3 (first at entries 0: stores nan, answers nan)'), 2)
+        _, said = self.page(self.write(table([('a', 'inf', 1, 4)], [[1, 2, 3, 4]], 'regular')))
+        self.assertEqual(said.count('each setting 0 of 4 0 4 (first at entries 0: stores 1, refused)'), 2)
+        # Units are counted through zero.
+        for one, other, width, units in ((1.0, 1.0000000000000002, 'f64', 1), (5e-324, -5e-324, 'f64', 2), (0.0, -0.0, 'f64', 0), (1.0, 2.0, 'f32', 1 << 23),
+                                         (-1.0, -1.0000001192092896, 'f32', 1), (2.0 ** -149, -(2.0 ** -149), 'f32', 2), (1.0, 2.0, 'f64', 1 << 52)):
+            self.assertEqual(report.units_apart(one, other, width), units)
+
+    def test_broken_curve(self):
+        text, said = self.page(self.write(table([('a', list(range(9)))], [[1, 2, 3, 4, 'nan', 6, 7, 8, 9]])))
+        self.assertRegex(said, r'The curve is broken\. Of the places asked for it, these answer no number: from a 2\.0\d* to 6 \(nan\)\.')
+        self.assertIn('>nan</text>', text)
+        self.assertIn('<td class="none">nan</td>', text)
+        self.assertIn('from 1 to 9; 1 is no finite number', said)
+        self.assertNotIn('The curve is broken', self.page(LARGEST)[1])
+
+    def test_large(self):
+        """A table of 262,144 points: the time is that of its points and not of their square, with which it would be minutes (`run_process` waits for two)."""
+        out = os.path.join(self.folder, 'out.html')
+        path = self.write(table([(name, list(range(64))) for name in 'abc'], lambda i, j, k: (i * j + k) / 8))
+        self.assertEqual(run_process('report', path, '-o', out)[0], 0)
+        self.assertEqual(text_of(out).count('each setting</td><td class="name">262,144 of 262,144</td>'), 2)
+
+    def test_drawings_have_room(self):
+        """The narrow drawings of the page too: what `Plot.room` holds, and no word lies on a stored point."""
+        for path in SAMPLES:
+            for drawing in re.findall(r'<svg.*?</svg>', self.page(path)[0], re.S):
+                found = Drawing(xml.etree.ElementTree.fromstring(drawing))
+                Plot.room(self, found, path)
+                self.assertEqual(found.whole.right, 520)
+                words = [box for said, box in found.texts if said.startswith('to ')]
+                self.assertEqual(len(words), len(found.marks()))
+                for box, (x, y, radius) in itertools.product(words, found.dots):
+                    self.assertTrue(box.apart(Box(x - radius, y - radius, x + radius, y + radius)), (box, x, y))
+
+    def test_on_a_phone(self):
+        """At 390 units across nothing makes the page scroll sideways: each table stands in a box that scrolls by itself, drawings shrink, long words are broken."""
+        text, _ = self.page(self.write(table([(LONG.replace(' ', '_'), [0, 1, 2, 3]), ('b', list(range(60)))], lambda i, j: f'{i}.{j:015}', title='T' * 300,
+                                             unit='W' * 200, notes=['N' * 500])))
+        page = _Page(text)
+        self.assertGreater(len(page.around), 6)
+        self.assertEqual(set(page.around), {('div', 'wide')})
+        self.assertIn('<meta name="viewport" content="width=device-width, initial-scale=1">', text)
+        style = _rules(text)
+        self.assertEqual(style['.wide'], {'overflow-x': 'auto', 'max-width': '100%'})
+        self.assertEqual([style['svg'][name] for name in ('max-width', 'height')], ['100%', 'auto'])
+        for tag in ('h1', 'h2', 'h3', 'p', 'li', 'figcaption', 'code'):
+            self.assertEqual(style[tag]['overflow-wrap'], 'anywhere', tag)
+        # Lines that are not broken, and widths in units, are in such boxes alone.
+        for names, found in style.items():
+            if found.get('white-space') == 'nowrap':
+                self.assertTrue(names.startswith('.figures '), names)
+            if re.fullmatch(r'\d+(px|pt|mm|em)', found.get('width', '')) or 'min-width' in found:
+                self.assertEqual((names, found['max-width']), ('svg', '100%'))
+        self.assertEqual(set(_Page(text).tags) - {'html', 'head', 'meta', 'title', 'style', 'body', 'h1', 'h2', 'h3', 'p', 'div', 'table', 'thead', 'tbody', 'tr', 'th', 'td',
+                         'sup', 'code', 'figure', 'figcaption', 'svg', 'defs', 'pattern', 'rect', 'path', 'clippath', 'text', 'g', 'circle', 'section', 'ul', 'li', 'b', 'span'}, set())
+        # The smallest letters of a drawing: 390 less two edges of 14, for so many units.
+        for drawing in re.findall(r'<svg.*?</svg>', text, re.S):
+            across = float(re.search(r'viewBox="0 0 (\d+) \d+"', drawing)[1])
+            self.assertGreater(min(map(float, re.findall(r'font-size="(\d+)"', drawing))) * (390 - 28) / across, 8)
+        self.assertIn('padding: 0 14px', text)
+
+    def test_light_and_dark(self):
+        """Every colour of the page is one of two sets, and can be read in both; the drawings have theirs."""
+        text, _ = self.page(LARGEST)
+        style = text[text.index('<style>'):text.index('</style>')]
+        light, dark = (dict(re.findall(r'--(\w+): (#[0-9a-f]+)', found)) for found in re.findall(r':root \{(.*?)\}', style))
+        self.assertEqual(sorted(light), sorted(dark))
+        self.assertIn('@media screen and (prefers-color-scheme: dark) {\n:root {', style)
+        rest = re.sub(r':root \{.*?\}|@page.*', '', style).replace(plot.STYLE, '')
+        self.assertNotRegex(rest, r'#[0-9a-f]{3}')
+        self.assertEqual(sorted(set(re.findall(r'var\(--(\w+)\)', rest))), sorted(light))
+        for colours in (light, dark):
+            full = {name: colour if len(colour) == 7 else '#' + ''.join(2 * digit for digit in colour[1:]) for name, colour in colours.items()}
+            for name in ('ink', 'soft'):
+                for ground in ('ground', 'raised', 'head'):
+                    self.assertGreater(contrast(full[name], full[ground]), 7, (name, ground))
+        self.assertEqual(style.count(plot.STYLE), 1)
+        self.assertEqual(text.count('<style>'), 1)
+        self.assertEqual(plot.STYLE.count(dark['ground']), 2)
+
+    def test_on_paper(self):
+        """Each printed page has the table's name, its number, and the file's name with the beginning of its sum."""
+        for title in ('A table', EVIL, 'Übergröße "1" \\ 50 % </style>', 'x' * 200):
+            path = self.write(table([('a', [0, 1, 2, 3])], [[1, 2, 3, 4]], title=title), 'a "file".table')
+            text, _ = self.page(path)
+            found = _boxed(text)
+            with open(path, 'rb') as data:
+                total = hashlib.sha256(data.read()).hexdigest()
+            self.assertEqual(found, {'top-left': title if len(title) <= 90 else title[:89] + '…', 'top-right': 'counter(page) " of " counter(pages)',
+                                     'bottom-left': f'a "file".table, SHA-256 {total[:16]}…'})
+            self.assertIn('@page { size: A4; margin: 20mm 15mm 18mm;', text)
+            self.assertEqual(text.count('</style>'), 1)
 
     def test_outside_the_premises(self):
         text, said = self.page(self.write(table([('a', 0, 0.1, 4)], [[1, 2, 3, 4]], 'regular')), 0, '--mode', 'held')
@@ -312,68 +821,6 @@ class Report(InFolder):
         # An axis that is too long for a page is broken into parts.
         text, said = self.page(self.write(table([('a', list(range(100)))], lambda i: i / 7)))
         self.assertGreater(text.count('class="figures"'), 10)
-
-
-class Diff(InFolder):
-    def test_none(self):
-        for path in SAMPLES:
-            status, out, err = run('diff', path, path)
-            self.assertEqual((status, out), (0, ''))
-            self.assertRegex(err, r'^veltzuma: 0 of \d+ stored points differ, in f64; at no stored point the tables answer differently')
-
-    def test_some(self):
-        one = self.write(RAMP, 'one.table')
-        other = self.write(RAMP.replace('204', '204.5').replace('\n0,1,', '\n-0,7,'), 'other.table')
-        status, out, err = run('diff', one, other)
-        self.assertEqual(status, 1)
-        self.assertEqual(out.split('\n'), [f'entry on a,entry on b,a,b,volume in {one},volume in {other}', '0,1,0,10,1,7', '2,4,2,45,204,204.5', ''])
-        self.assertEqual(err, 'veltzuma: 2 of 20 stored points differ, in f64; at these stored points and no others the tables answer differently '
-                         '(docs/SPECIFICATION.md 8.4)\n')
-
-    def test_in_the_width_asked(self):
-        one, other = self.write(RAMP, 'one.table'), self.write(RAMP.replace('204', '204.000001'), 'other.table')
-        self.assertEqual([run('diff', one, other, '--width', width)[0] for width in ('f64', 'f32')], [1, 0])
-
-    def test_nan(self):
-        """Two NaNs are no difference, a NaN and a number are one; and the node rule does not apply."""
-        one = self.write(table([('a', [0, 1, 2, 3])], [['nan', 2, 'nan', 4]]), 'one.table')
-        other = self.write(table([('a', [0, 1, 2, 3])], [['-nan', 2, 3, 4]]), 'other.table')
-        status, out, err = run('diff', one, other)
-        self.assertEqual((status, out.split('\n')[1:]), (1, ['2,2,nan,3', '']))
-        self.assertIn('outside the premises of the node rule', err)
-
-    def test_answers_differ_where_diff_says(self):
-        """The numbers that the two tables answer with at each stored point differ at the listed ones alone."""
-        one, other = self.write(RAMP, 'one.table'), self.write(RAMP.replace('103', '99').replace('304', '-5'), 'other.table')
-        found = [line.split(',')[2:4] for line in run('diff', one, other)[1].split('\n')[1:-1]]
-        lists = [run('nodes', path, '--list', '--mode', 'cubic')[1].split('\n')[1:-1] for path in (one, other)]
-        told = [a.split(',')[:2] for a, b in zip(*lists) if a.split(',')[4:] != b.split(',')[4:]]
-        self.assertEqual((found, len(found)), (told, 2))
-
-    def test_other_axes(self):
-        one = self.write(RAMP, 'one.table')
-        cases = [
-            (RAMP.replace('0, 10, 20', '0, 11, 20'), 9, "axis 1 'b', entry 1: 11, where the first has 10"),
-            (RAMP.replace('axis: b', 'axis: c'), 7, "axis 1 is 'c' in mm, where the first has 'b' in mm"),
-            (RAMP.replace('unit: mm', 'unit: cm', 1), 4, "axis 0 is 'a' in cm, where the first has 'a' in mm"),
-            (RAMP.replace('unit: mL', 'unit: L'), 10, "'volume' is in L, where the first has 'volume' in mL"),
-            (table([('a', [0, 1, 2, 3])], [[1, 2, 3, 4]]), 4, '1 axis, where the first has 2'),
-            (table([('a', [0, 1, 2, 3]), ('b', [0, 10, 20, 30])], lambda *_: 1), 7, "axis 1 'b' has 4 entries, where the first has 5"),
-            (table([('a', 0, 1, 4), ('b', 0, 1, 5)], lambda *_: 1, 'regular'), 3, 'regular, where the first is rectilinear')]
-        for text, line, said in cases:
-            other = self.write(text, 'other.table')
-            self.assertOneLine(run('diff', one, other), 2, f'{other}:{line}: not on the axes of {one}: {said}')
-        one = self.write(table([('a', 0, 1, 4)], lambda i: i, 'regular'), 'one.table')
-        for start, step, line, said in ((1, 1, 6, 'start: 1, where the first has 0'), (0, 2, 7, 'step: 2, where the first has 1')):
-            other = self.write(table([('a', start, step, 4)], lambda i: i, 'regular'), 'other.table')
-            self.assertOneLine(run('diff', one, other), 2, f"{other}:{line}: not on the axes of {one}: axis 0 'a', {said}")
-
-    def test_refused(self):
-        one, other = self.write(RAMP, 'one.table'), self.write(RAMP.replace('0, 10, 20', '0, 0, 20'), 'other.table')
-        self.assertOneLine(run('diff', one, other), 2, f'{other}:9: refused 5 (not rising)')
-        self.write(RAMP.replace('20, 30', '20, 20'), 'other.table')
-        for first, second in ((one, other), (other, one)):
-            self.assertOneLine(run('diff', first, second), 2, f"{other}:9: refused 10 (flat): axis 1 'b', entry 3: 20 equals the entry before it")
 
 
 if __name__ == '__main__':

@@ -1,4 +1,6 @@
 """Reads text files line by line, and tables from them (docs/TABLES.md). Whatever is wrong with a file is one line that names the file and the line."""
+import array
+import copy
 import csv
 import functools
 import hashlib
@@ -14,6 +16,8 @@ MARK = 'veltzuma table 1'
 # A table has at most 1,048,576 values; so many bytes hold them with room to spare.
 MOST_BYTES = 64 << 20
 MOST_LINE = 1 << 20
+# Of a query file: the longest line, and what is read at a time.
+MOST_QUERY = 1 << 16
 MOST_NAME = 80
 # What is over these is refused whatever it holds, and is not kept.
 MOST_AXES, MOST_ENTRIES, MOST_VALUES = 64, 4097, (1 << 20) + 1
@@ -53,9 +57,8 @@ def _decoded(raw, where, line):
     return text
 
 
-def lines_of(stream, where, most=MOST_LINE):
-    """The lines of a binary stream, numbered from 1."""
-    line = 0
+def lines_of(stream, where, most=MOST_LINE, line=0):
+    """The lines of a binary stream, numbered from 1, or behind `line`."""
     while True:
         try:
             raw = stream.readline(most + 1)
@@ -110,9 +113,9 @@ class Axis:
     def __init__(self, name, line, width):
         self.name, self.line, self.width, self.unit = name, line, width, None
         self.start = self.step = self.count = None
-        # Of a rectilinear axis: the entries in the width, and as the file has them.
+        # Of a rectilinear axis: the entries in the width, and as the file has them; of a regular one the texts of start and step.
         self.listed = self.text = None
-        self.lines = {}
+        self.lines, self.texts = {}, {}
 
     @functools.cached_property
     def entries(self):
@@ -121,6 +124,27 @@ class Axis:
             return self.listed
         steps = (floats.round_to(self.step * k, self.width) for k in range(min(self.count, MOST_ENTRIES)))
         return [floats.round_to(self.start + part, self.width) for part in steps]
+
+    def fields(self):
+        """The entries of a rectilinear axis as the file has them."""
+        return [field.strip(' \t') for field in fields_of(self.text)]
+
+    def decimals(self):
+        """The entries of a regular axis as f64 rounds them, written as decimals."""
+        base = Axis(self.name, self.line, 'f64')
+        base.start, base.step = (floats.parse(self.texts[key], 'f64') for key in ('start', 'step'))
+        base.count = self.count
+        return [floats.show(entry, 'f64') for entry in base.entries]
+
+    def told(self):
+        """The same axis, its numbers beside their texts."""
+        found = copy.copy(self)
+        found.__dict__.pop('entries', None)
+        if self.listed is None:
+            found.start, found.step = (floats.Told.of(getattr(self, key), self.texts[key]) for key in ('start', 'step'))
+        else:
+            found.listed = [floats.Told.of(entry, text) for entry, text in zip(self.listed, self.fields())]
+        return found
 
 
 class Table:
@@ -132,6 +156,8 @@ class Table:
         self.axes, self.name, self.unit, self.value_line = [], None, None, None
         # `cut`: the file has more values than a table may have, and the last one here stands for them.
         self.vals, self.rows, self.cut = [], [], False
+        # The first value that is not finite, as the file has it.
+        self.odd = None
         self.last_line = 1
 
     @property
@@ -144,6 +170,12 @@ class Table:
             return veltzuma.MulticubicRegular(self.counts, [axis.start for axis in self.axes], [axis.step for axis in self.axes], self.vals,
                                               self.width, library=library)
         return veltzuma.MulticubicRectilinear(self.counts, [entry for axis in self.axes for entry in axis.entries], self.vals, self.width, library=library)
+
+    def told(self):
+        """The same table for a message, the numbers of its axes beside their texts."""
+        found = copy.copy(self)
+        found.axes = [axis.told() for axis in self.axes]
+        return found
 
     def indices(self, at):
         """The index on each axis of the value that stands at a place in vals."""
@@ -184,6 +216,12 @@ def read_bytes(path):
     return data
 
 
+def begins_as_table(path):
+    """Whether a file begins as a table does, of this format or another."""
+    with open(path, 'rb') as stream:
+        return stream.read(32).removeprefix(b'\xef\xbb\xbf').startswith(b'veltzuma table')
+
+
 def sum_of(data):
     return hashlib.sha256(data).hexdigest()
 
@@ -222,6 +260,8 @@ class _Reading:
             pass
         elif self.in_values:
             numbers = numbers_in(text, self.path, line, self.width)
+            if self.table.odd is None and not all(map(math.isfinite, numbers)):
+                self.table.odd = next(field for field, number in zip(fields_of(text), numbers) if not math.isfinite(number))
             self.table.rows.append((line, len(self.table.vals), len(numbers)))
             self.table.vals += numbers
             if len(self.table.vals) >= MOST_VALUES:
@@ -279,6 +319,7 @@ class _Reading:
                     self.bad(line, f'{shown(rest)} is not a count')
                 axis.count = int(rest)
             else:
+                axis.texts[key] = rest
                 setattr(axis, key, number_in(rest, self.path, line, self.width))
         elif key == 'values':
             if rest:
@@ -322,23 +363,83 @@ class _Reading:
                     self.bad(line, f"{count} values in a row, where axis '{last.name}' has {last.count} entries")
 
 
-def query_lines(path, stream, table):
-    """The queries of a stream, the coordinates of each. A first line may name the axes."""
-    names = [axis.name for axis in table.axes]
-    first, line = True, 0
-    for line, text in lines_of(stream, path, 1 << 16):
-        if not text.strip() or text.lstrip().startswith('#'):
-            continue
-        if first:
-            first = False
-            fields = [field.strip() for field in fields_of(text)]
-            if fields == names:
-                continue
-            if sorted(fields) == sorted(names):
-                raise BadInput(f'{path}:{line}: the columns are {", ".join(fields)}, and the table has its axes as {", ".join(names)}')
-        yield coordinates(text, f'{path}:{line}: ', table)
-    if not line:
-        raise BadInput(f'{path}:1: no query: the file is empty')
+class Part(array.array):
+    """Numbers of queries beside the texts that they have in the file."""
+    __slots__ = ('texts',)
+
+
+class Queries:
+    """The queries of a stream, in parts: arrays of the table's width that have the coordinates of one query after the other. A first line may name the
+    axes. A part is what the stream has at a time, and ends before a line that is no query, which is told when the next part is asked for."""
+
+    def __init__(self, path, stream, table):
+        self.path, self.stream, self.table = path, stream, table
+        self.names = [axis.name for axis in table.axes]
+        # The lines that were read, and whether one of them may still name the axes.
+        self.line, self.first = 0, True
+
+    def __iter__(self):
+        rest, more = b'', True
+        while more:
+            try:
+                more = self.stream.read1(MOST_QUERY)
+            except OSError as error:
+                raise BadInput(f'{self.path}:{self.line + 1}: {error.strerror}') from None
+            block = rest + more
+            # Whole lines; at the end what is left, and a line that is too long whether it ends or not.
+            end = block.rfind(b'\n') + 1
+            if not more or len(block) - end > MOST_QUERY:
+                end = len(block)
+            block, rest = block[:end], block[end:]
+            numbers = self.at_once(block)
+            if numbers:
+                yield numbers
+            elif block:
+                yield from self.line_by_line(block)
+        if not self.line:
+            raise BadInput(f'{self.path}:1: no query: the file is empty')
+
+    def at_once(self, block):
+        """The numbers of lines that hold nothing but queries; None where there is anything else."""
+        end = block.find(b'\n') + 1
+        # No line but the first can be longer than what is read at a time.
+        if not self.names or not 0 < end <= MOST_QUERY:
+            return None
+        line = b',' * (len(self.names) - 1) + b'\n'
+        left = block.translate(None, floats.LETTERS)
+        if not block.endswith(b'\n') or left != line * (len(left) // len(line)):
+            return None
+        fields = block.decode('ascii').replace('\n', ',').split(',')
+        del fields[-1]
+        try:
+            numbers = Part(floats.CODE[self.table.width], floats.parse_all(fields, self.table.width))
+        except ValueError:
+            return None
+        numbers.texts = fields
+        self.line += len(left) // len(line)
+        self.first = False
+        return numbers
+
+    def line_by_line(self, block):
+        numbers = array.array(floats.CODE[self.table.width])
+        try:
+            for self.line, text in lines_of(io.BytesIO(block), self.path, MOST_QUERY, self.line):
+                if not text.strip() or text.lstrip().startswith('#'):
+                    continue
+                if self.first:
+                    self.first = False
+                    fields = [field.strip() for field in fields_of(text)]
+                    if fields == self.names:
+                        continue
+                    if sorted(fields) == sorted(self.names):
+                        raise BadInput(f'{self.path}:{self.line}: the columns are {", ".join(fields)}, and the table has its axes as {", ".join(self.names)}')
+                numbers.extend(coordinates(text, f'{self.path}:{self.line}: ', self.table))
+        except BadInput:
+            if numbers:
+                yield numbers
+            raise
+        if numbers:
+            yield numbers
 
 
 def coordinates(text, at, table):

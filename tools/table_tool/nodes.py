@@ -4,7 +4,7 @@ import csv
 
 import veltzuma
 
-from . import evaluate, floats, words
+from . import evaluate, floats, premises, words
 
 SHOWN = 10
 
@@ -33,9 +33,10 @@ def ask(table, grid, modes, listed, out, told):
                       f'and the answer is {_shown(found[how][place], table.width) or "none"}', file=told)
             if len(places) > SHOWN:
                 print(f'  {how}: and {len(places) - SHOWN:,} more', file=told)
-    for line, text in words.outside_premises(table):
+    outside = premises.outside(table)
+    for line, text in outside:
         print(f'{table.path}:{line}: outside the premises of the node rule: {text}', file=told)
-    if not words.outside_premises(table):
+    if not outside:
         print('within the premises of the node rule: that each answers its own number is proved, docs/SPECIFICATION.md 8.3', file=told)
     return all_do
 

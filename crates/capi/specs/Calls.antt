@@ -49,7 +49,7 @@ module _ (f : Format) (s : Gathered) where
       let g = lentTo s (length refusal) in
       leaves (interpOutcome f g queries out) refusal (interpBuffer f g queries out)
 
-  -- the gradients of a batch, query after query
+  -- the gradients of a batch: joined columns, the component along axis 0 of each query, then along axis 1
   unfoldable pub interpGradLeaves : List Float → List ℕ → List Float → Leaves (List Float)
   interpGradLeaves queries refusal out =
       let g = lentTo s (length refusal) in

@@ -90,7 +90,7 @@ pub extern "C" fn veltzuma_regular_get_loc(
     tell_places(answer, axis_count, refusal, origins, classes, marks)
 }
 
-// The value at a query, and its marks.
+// The value at a query, and its marks. Of a value that is a NaN the contract says that it is one, and leaves its payload open.
 #[no_mangle]
 pub extern "C" fn veltzuma_regular_interp_one(
     axis_count: usize,
@@ -128,7 +128,7 @@ pub extern "C" fn veltzuma_regular_interp_one(
     tell_value(answer, axis_count, refusal, value, marks)
 }
 
-// The gradient at a query, and its marks.
+// The gradient at a query, and its marks. Of a component that is a NaN the contract says that it is one, and leaves its payload open.
 #[no_mangle]
 pub extern "C" fn veltzuma_regular_interp_one_grad(
     axis_count: usize,
@@ -166,7 +166,7 @@ pub extern "C" fn veltzuma_regular_interp_one_grad(
     tell_gradient(answer, axis_count, refusal, gradient, marks)
 }
 
-// The values of a batch.
+// The values of a batch. Of a value that is a NaN the contract says that it is one, and leaves its payload open.
 #[no_mangle]
 pub extern "C" fn veltzuma_regular_interp(
     axis_count: usize,
@@ -193,7 +193,7 @@ pub extern "C" fn veltzuma_regular_interp(
     tell(outcome, refusal)
 }
 
-// The gradients of a batch.
+// The gradients of a batch. Of a component that is a NaN the contract says that it is one, and leaves its payload open.
 #[no_mangle]
 pub extern "C" fn veltzuma_regular_interp_grad(
     axis_count: usize,
@@ -286,7 +286,7 @@ pub extern "C" fn veltzuma_rectilinear_get_loc(
     tell_places(answer, axis_count, refusal, origins, classes, marks)
 }
 
-// The value at a query, and its marks.
+// The value at a query, and its marks. Of a value that is a NaN the contract says that it is one, and leaves its payload open.
 #[no_mangle]
 pub extern "C" fn veltzuma_rectilinear_interp_one(
     axis_count: usize,
@@ -331,7 +331,7 @@ pub extern "C" fn veltzuma_rectilinear_interp_one(
     tell_value(answer, axis_count, refusal, value, marks)
 }
 
-// The gradient at a query, and its marks.
+// The gradient at a query, and its marks. Of a component that is a NaN the contract says that it is one, and leaves its payload open.
 #[no_mangle]
 pub extern "C" fn veltzuma_rectilinear_interp_one_grad(
     axis_count: usize,
@@ -376,7 +376,7 @@ pub extern "C" fn veltzuma_rectilinear_interp_one_grad(
     tell_gradient(answer, axis_count, refusal, gradient, marks)
 }
 
-// The values of a batch.
+// The values of a batch. Of a value that is a NaN the contract says that it is one, and leaves its payload open.
 #[no_mangle]
 pub extern "C" fn veltzuma_rectilinear_interp(
     axis_count: usize,
@@ -411,7 +411,7 @@ pub extern "C" fn veltzuma_rectilinear_interp(
     tell(outcome, refusal)
 }
 
-// The gradients of a batch.
+// The gradients of a batch. Of a component that is a NaN the contract says that it is one, and leaves its payload open.
 #[no_mangle]
 pub extern "C" fn veltzuma_rectilinear_interp_grad(
     axis_count: usize,

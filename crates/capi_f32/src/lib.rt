@@ -91,7 +91,7 @@ pub extern "C" fn veltzuma_regular_get_loc_f32(
     tell_places(answer, axis_count, refusal, origins, classes, marks)
 }
 
-// The value at a query, and its marks.
+// The value at a query, and its marks. Of a value that is a NaN the contract says that it is one, and leaves its payload open.
 #[no_mangle]
 pub extern "C" fn veltzuma_regular_interp_one_f32(
     axis_count: usize,
@@ -129,7 +129,7 @@ pub extern "C" fn veltzuma_regular_interp_one_f32(
     tell_value(answer, axis_count, refusal, value, marks)
 }
 
-// The gradient at a query, and its marks.
+// The gradient at a query, and its marks. Of a component that is a NaN the contract says that it is one, and leaves its payload open.
 #[no_mangle]
 pub extern "C" fn veltzuma_regular_interp_one_grad_f32(
     axis_count: usize,
@@ -174,7 +174,7 @@ pub extern "C" fn veltzuma_regular_interp_one_grad_f32(
     tell_gradient(answer, axis_count, refusal, gradient, marks)
 }
 
-// The values of a batch.
+// The values of a batch. Of a value that is a NaN the contract says that it is one, and leaves its payload open.
 #[no_mangle]
 pub extern "C" fn veltzuma_regular_interp_f32(
     axis_count: usize,
@@ -209,7 +209,7 @@ pub extern "C" fn veltzuma_regular_interp_f32(
     tell(outcome, refusal)
 }
 
-// The gradients of a batch.
+// The gradients of a batch. Of a component that is a NaN the contract says that it is one, and leaves its payload open.
 #[no_mangle]
 pub extern "C" fn veltzuma_regular_interp_grad_f32(
     axis_count: usize,
@@ -310,7 +310,7 @@ pub extern "C" fn veltzuma_rectilinear_get_loc_f32(
     tell_places(answer, axis_count, refusal, origins, classes, marks)
 }
 
-// The value at a query, and its marks.
+// The value at a query, and its marks. Of a value that is a NaN the contract says that it is one, and leaves its payload open.
 #[no_mangle]
 pub extern "C" fn veltzuma_rectilinear_interp_one_f32(
     axis_count: usize,
@@ -355,7 +355,7 @@ pub extern "C" fn veltzuma_rectilinear_interp_one_f32(
     tell_value(answer, axis_count, refusal, value, marks)
 }
 
-// The gradient at a query, and its marks.
+// The gradient at a query, and its marks. Of a component that is a NaN the contract says that it is one, and leaves its payload open.
 #[no_mangle]
 pub extern "C" fn veltzuma_rectilinear_interp_one_grad_f32(
     axis_count: usize,
@@ -400,7 +400,7 @@ pub extern "C" fn veltzuma_rectilinear_interp_one_grad_f32(
     tell_gradient(answer, axis_count, refusal, gradient, marks)
 }
 
-// The values of a batch.
+// The values of a batch. Of a value that is a NaN the contract says that it is one, and leaves its payload open.
 #[no_mangle]
 pub extern "C" fn veltzuma_rectilinear_interp_f32(
     axis_count: usize,
@@ -435,7 +435,7 @@ pub extern "C" fn veltzuma_rectilinear_interp_f32(
     tell(outcome, refusal)
 }
 
-// The gradients of a batch.
+// The gradients of a batch. Of a component that is a NaN the contract says that it is one, and leaves its payload open.
 #[no_mangle]
 pub extern "C" fn veltzuma_rectilinear_interp_grad_f32(
     axis_count: usize,

@@ -9,10 +9,10 @@ use Rattle.slices.specs.Axes.{axesFrom}
 use Rattle.slices.specs.Lent.{setBy}
 use Rattle.regular_lent.specs.Regular.{regularFrom}
 use Rattle.rectilinear_lent.specs.Rectilinear.{rectilinearFrom}
+use Rattle.guarantees.proofs.Typing.{typed}
 use Rattle.regular_guarantees.proofs.Supplied as Reg
 use Rattle.rectilinear_guarantees.proofs.Supplied as Rect
 use Rattle.capi_guarantees.specs.Gathered.{OwedRegular, OwedRectilinear, HeldRegular, HeldRectilinear, UnmarkedRegular, UnmarkedRectilinear}
-use Rattle.capi_guarantees.proofs.Typing.{typed}
 use Rattle.capi_guarantees.proofs.Owed.{owed-held, owed}
 use Rattle.capi_guarantees.proofs.Unmarked.{owed-unmarked}
 

@@ -1,8 +1,8 @@
 -- Two gathered grids that have what their kind supplies have what is owed: the laws of `guarantees` hold of the grids as they are lent, and
 -- a caller reads what was answered.
-use mathlib.Core.Path.{refl, sym, _∙_, subst}
+use mathlib.Core.Path.{refl, sym, _∙_}
 use mathlib.Core.List.{List}
-use Prim.Native.Nat.{ℕ, _<_}
+use Prim.Native.Nat.{ℕ}
 use lib.ListN.{length, take}
 use lib.Ieee.{Float, Format}
 use Rattle.grid.specs.Query.{Grid, at, outcomeOf, valueAnswer, gradientAnswer}
@@ -11,16 +11,16 @@ use Rattle.grid.specs.Edges.{AtClamped}
 use Rattle.grid.specs.Nodes.{Fits}
 use Rattle.grid.proofs.AtNodes.{AtEach}
 use Rattle.guarantees.specs.Statements.{IsAccepted, HeldEdge, HeldInBatch}
-use Rattle.guarantees.proofs.Typing.{Typed}
-use Rattle.guarantees.proofs.Nodes.{Supplied, node-rule, node-corollary, node-in-batch, held-edge, held-in-batch}
+use Rattle.guarantees.proofs.Typing.{Typed, typed}
+use Rattle.guarantees.proofs.Nodes.{Supplied, node-rule, node-corollary, node-in-batch, corollary-in-batch, held-edge, held-in-batch}
 use Rattle.guarantees.proofs.Blocks.{Counted, block-rule, block-gradient, block-in-batch, block-in-columns}
 use Rattle.slices.specs.Slices.{queryFrom}
 use Rattle.slices.specs.Lent.{Gathered, lentTo, lentToQuery}
 use Rattle.capi.specs.Calls.{interpOneLeaves, interpOneGradLeaves, interpLeaves, interpGradLeaves}
 use Rattle.capi_guarantees.specs.Statements.{outcomeRead, answerRead, OfValue, OfGradient, OfBatch, OfColumns, Owed, OwedHeld}
-use Rattle.capi_guarantees.proofs.Typing.{typed, query-typed}
+use Rattle.capi_guarantees.proofs.Typing.{query-typed}
 use Rattle.capi_guarantees.proofs.Lent.{accepted-to, supplied-to, counted-to, refusal-holds, accepted-query, supplied-to-query, counted-to-query}
-use Rattle.capi_guarantees.proofs.Read.{value-read, gradient-read, number-read, as-read, query-read}
+use Rattle.capi_guarantees.proofs.Read.{value-read, gradient-read, reached-read}
 
 module _ (f : Format) (premises : Type 0) (s s' : Gathered) where
   module _ (x out out' : List Float) (refusal refusal' marks marks' : List ℕ) where
@@ -73,18 +73,22 @@ module _ (f : Format) (premises : Type 0) (s s' : Gathered) where
     abbrev many' : Grid
     many' = lentTo s' (length refusal')
 
-    of-batch : Supplied f premises (s .grid) → Fits f queries → OfBatch f premises many many' queries out out' (interpLeaves f s queries refusal out) (interpLeaves f s' queries refusal' out')
+    of-batch : Supplied f premises (s .grid) → Supplied f premises (s' .grid) → Fits f queries → OfBatch f premises many many' queries out out' (interpLeaves f s queries refusal out) (interpLeaves f s' queries refusal' out')
     unfolding interpLeaves
-    of-batch kind fit =
+    of-batch kind kind' fit =
         let o = interpOutcome f many queries out in
+        let o' = interpOutcome f many' queries out' in
         let after = interpBuffer f many queries out in
-        let number = number-read refusal after o in
+        let after' = interpBuffer f many' queries out' in
+        let supplied = supplied-to s (length refusal) kind in
+        let fits = typed f queries fit in
         record {
-          node = λ i node l h not-seven not-earlier.
-              let told = query-read refusal after o (refusal-holds s (length refusal) (h .0)) in
-              node-in-batch f premises many (supplied-to s (length refusal) kind) queries out after o (typed f queries fit) refl refl i node l h
-              (λ seven. not-seven (number ∙ seven)) (λ which earlier. not-earlier (as-read number which) (subst (λ (q : ℕ). q < i) (sym (told which)) earlier));
-          block = block-in-batch f many many' queries out after out' (interpBuffer f many' queries out') refl refl;
+          node = λ i node l h reached.
+              node-in-batch f premises many supplied queries out after o fits refl refl i node l h (reached-read refusal after o i (refusal-holds s (length refusal) (h .0)) reached);
+          corollary = λ same i node l h h' reached reached'.
+              corollary-in-batch f premises many many' supplied (supplied-to s' (length refusal') kind') queries out after out' after' o o' fits refl refl refl refl same i node l h h'
+              (reached-read refusal after o i (refusal-holds s (length refusal) (h .0)) reached) (reached-read refusal' after' o' i (refusal-holds s' (length refusal') (h' .0)) reached');
+          block = block-in-batch f many many' queries out after out' after' refl refl;
         }
 
     of-columns : Counted (s .grid) → OfColumns f many many' queries out out' (interpGradLeaves f s queries refusal out) (interpGradLeaves f s' queries refusal' out')
@@ -96,7 +100,7 @@ module _ (f : Format) (premises : Type 0) (s s' : Gathered) where
   owed kind kind' counted counted' = record {
     value = λ x out out' refusal refusal' marks marks'. of-value x out out' refusal refusal' marks marks' kind kind';
     gradient = λ x out out' refusal refusal' marks marks'. of-gradient x out out' refusal refusal' marks marks' counted counted';
-    batch = λ queries out out' refusal refusal'. of-batch queries out out' refusal refusal' kind;
+    batch = λ queries out out' refusal refusal'. of-batch queries out out' refusal refusal' kind kind';
     columns = λ queries out out' refusal refusal'. of-columns queries out out' refusal refusal' counted;
   }
 
@@ -116,14 +120,12 @@ module _ (f : Format) (premises : Type 0) (s : Gathered) (kind : Supplied f prem
   held-batch : (queries out : List Float) (refusal : List ℕ) → Fits f queries
       → HeldInBatch premises (lentTo s (length refusal)) queries (outcomeRead (interpLeaves f s queries refusal out)) out (interpLeaves f s queries refusal out .written)
   unfolding interpLeaves
-  held-batch queries out refusal fit i index l h not-seven not-earlier =
+  held-batch queries out refusal fit i index l h reached =
       let many = lentTo s (length refusal) in
       let o = interpOutcome f many queries out in
       let after = interpBuffer f many queries out in
-      let number = number-read refusal after o in
-      let told = query-read refusal after o (refusal-holds s (length refusal) (h .0)) in
       held-in-batch f premises many (supplied-to s (length refusal) kind) (λ query typed e. rows query typed (accepted-to s (length refusal) e)) queries out after o (typed f queries fit) refl refl i index l h
-      (λ seven. not-seven (number ∙ seven)) (λ which earlier. not-earlier (as-read number which) (subst (λ (q : ℕ). q < i) (sym (told which)) earlier))
+      (reached-read refusal after o i (refusal-holds s (length refusal) (h .0)) reached)
 
   pub owed-held : OwedHeld f premises s
   owed-held = record { value = held-value; batch = held-batch }

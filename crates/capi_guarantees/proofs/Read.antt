@@ -1,10 +1,10 @@
 -- A caller reads what a call answered: after one query on a grid that is accepted its value or its gradient, after a batch its number and,
 -- on 8 and 9, its query.
-use mathlib.Core.Path.{_≡_, refl, sym, ap, _∙_}
+use mathlib.Core.Path.{_≡_, refl, sym, ap, _∙_, subst}
 use mathlib.Core.Bool.{Bool, true, false, cond}
 use mathlib.Core.Logic.{_⊎_, inl, inr}
 use mathlib.Core.List.{List, [], _∷_, _++_}
-use Prim.Native.Nat.{ℕ, zero, suc, _+_, _≤_}
+use Prim.Native.Nat.{ℕ, zero, suc, _+_, _≤_, _<_}
 use native.Mathlib.Omega.{arith}
 use lib.Dec.{eqb}
 use lib.ListN.{length, getD, take, set, length-append}
@@ -16,7 +16,7 @@ use Rattle.multicubic.specs.declared.Outcome.{Outcome}
 use Rattle.multicubic.specs.declared.Outcome.the-variants.{Accepted, Refused}
 use Rattle.multicubic.specs.Answers.{numberOf, queryOf, axisOf, answered, answerOutcome}
 use Rattle.grid.specs.Query.{Grid, at, fourOf, outcomeOf, valueAnswer, gradientAnswer, markAnswer}
-use Rattle.guarantees.specs.Statements.{IsAccepted}
+use Rattle.guarantees.specs.Statements.{IsAccepted, Reached}
 use Rattle.slices.specs.Slices.{queryFrom}
 use Rattle.slices.specs.Lent.{Gathered, lentToQuery}
 use Rattle.told.specs.Told.{over, withValue, withFirst, Leaves, leaves, leavesMarked}
@@ -47,6 +47,13 @@ module _ {W : Type 0} (refusal : List ℕ) (written : W) where
   pub query-read : (o : Outcome) → 2 ≤ length refusal → (numberOf o ≡ 8) ⊎ (numberOf o ≡ 9) → queryOf (outcomeRead (leaves o refusal written)) ≡ queryOf o
   query-read o two (inl e) = rw (e, le-ltb (length refusal) 2 two) (there o two)
   query-read o two (inr e) = rw (e, le-ltb (length refusal) 2 two) (there o two)
+
+  -- as a caller reads it, the batch came to query i only where it did
+  pub reached-read : (o : Outcome) (i : ℕ) → 2 ≤ length refusal → Reached (outcomeRead (leaves o refusal written)) i → Reached o i
+  reached-read o i two r = (
+    (λ seven. r .0 (number-read o ∙ seven)),
+    (λ which earlier. r .1 (as-read (number-read o) which) (subst (λ (q : ℕ). q < i) (sym (query-read o two which)) earlier)),
+  )
 
 -- ---- one query
 -- the first n of what is written over others

@@ -19,9 +19,9 @@ use Rattle.rectilinear_query.specs.Grid.{checksOf, gridOf}
 use Rattle.slices.specs.Slices.{countsFrom, slicesOf, gridFirst, earlier}
 use Rattle.rectilinear_lent.specs.Rectilinear.{rectilinearFrom}
 use Rattle.capi.specs.Calls.{newLeaves}
+use Rattle.guarantees.proofs.Typing.{typed}
 use Rattle.rectilinear_guarantees.proofs.Relied.{rising, gaps}
 use Rattle.capi_guarantees.specs.Gathered.{RisesRectilinear}
-use Rattle.capi_guarantees.proofs.Typing.{typed}
 use Rattle.capi_guarantees.proofs.Lent.{accepted}
 
 -- 0 is acceptance

@@ -1,9 +1,8 @@
--- What is lent fits the format past its end too, and so does a query gathered from it: a NaN or +0 stands there.
+-- A query gathered from what is lent fits the format: past the end +0 stands, past four coordinates a NaN.
 use mathlib.Core.Path.{refl}
 use mathlib.Core.Bool.{false}
-use mathlib.Core.List.{List, [], _∷_}
+use mathlib.Core.List.{List}
 use Prim.Native.Nat.{ℕ, zero, suc}
-use native.Mathlib.Omega.{arith}
 use lib.Dec.{T}
 use lib.ListN.{getD}
 use lib.Ieee.{Float, Format, fits}
@@ -12,17 +11,8 @@ use Rattle.ieee.specs.Numbers.{zero as nought}
 use Rattle.ieee.proofs.ZeroOne.{zero-fits}
 use Rattle.grid.specs.Query.{at}
 use Rattle.grid.specs.Nodes.{Fits}
-use Rattle.guarantees.proofs.Typing.{Typed}
+use Rattle.guarantees.proofs.Typing.{Typed, or-other}
 use Rattle.slices.specs.Slices.{queryFrom}
-
--- of a list whose entries fit, any that is asked for fits where what stands past the end does
-or-other : (f : Format) (xs : List Float) → Fits f xs → (other : Float) → T (fits f other) → (k : ℕ) → T (fits f (getD xs k other))
-or-other f [] h other o k = o
-or-other f (x ∷ xs) h other o zero = h 0 (omega arith)
-or-other f (x ∷ xs) h other o (suc k) = or-other f xs (λ j l. h (suc j) (omega arith)) other o k
-
-pub typed : (f : Format) (xs : List Float) → Fits f xs → Typed f (at xs)
-typed f xs h = or-other f xs h _ (nan-fits f)
 
 pub query-typed : (f : Format) (x : List Float) → Fits f x → Typed f (at (queryFrom x))
 query-typed f x h k = go k

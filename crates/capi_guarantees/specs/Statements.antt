@@ -13,14 +13,14 @@ use Rattle.multicubic.specs.declared.Outcome.the-variants.{Accepted, Refused}
 use Rattle.multicubic.specs.Answers.{answered}
 use Rattle.grid.specs.Query.{Grid, at}
 use Rattle.grid.specs.Nodes.{AtIndex, Fits}
-use Rattle.guarantees.specs.Statements.{IsAccepted, NodeRule, NodeCorollary, NodeInBatch, HeldEdge, HeldInBatch, BlockRule, BlockGradient, BlockInBatch, BlockInColumns}
+use Rattle.guarantees.specs.Statements.{IsAccepted, NodeRule, NodeCorollary, NodeInBatch, CorollaryInBatch, HeldEdge, HeldInBatch, BlockRule, BlockGradient, BlockInBatch, BlockInColumns}
 use Rattle.slices.specs.Slices.{queryFrom}
 use Rattle.slices.specs.Lent.{Gathered, lentTo, lentToQuery}
 use Rattle.told.specs.Told.{Leaves}
 use Rattle.capi.specs.Calls.{getLocLeaves, interpOneLeaves, interpOneGradLeaves, interpLeaves, interpGradLeaves}
 
 -- ---- what a caller reads
--- number 0 is acceptance; on any other but 7, query and axis stand in `refusal`
+-- number 0 is acceptance; on any other but 7, query and axis stand in `refusal` where it has two entries or more, as a grid that is accepted as lent asks
 abbrev pub outcomeRead : {W : Type 0} → Leaves W → Outcome
 outcomeRead left = cond (eqb (left .number) 0) Accepted (Refused (left .number) (getD (left .refusal) 0 0) (getD (left .refusal) 1 0))
 
@@ -43,6 +43,7 @@ OfGradient g g' query left left' =
 -- `interp`
 pub record OfBatch (f : Format) (premises : Type 0) (g g' : Grid) (queries out out' : List Float) (left left' : Leaves (List Float)) : Type 0 where
   pub node : NodeInBatch premises g queries (outcomeRead left) out (left .written)
+  pub corollary : CorollaryInBatch premises g g' queries (outcomeRead left) (outcomeRead left') out (left .written) out' (left' .written)
   pub block : BlockInBatch f g g' queries out (left .written) out' (left' .written)
 
 -- `interp_grad`

@@ -21,9 +21,9 @@ use Rattle.multicubic.specs.declared.Place.{Place}
 use Rattle.multicubic.specs.Answers.{answered, placeOutcome}
 use Rattle.multicubic.specs.Place.{nowhere, Placed, refused}
 use Rattle.multicubic.proofs.Numbers.{Unplaced, unplaced-outcome}
-use Rattle.reduction.specs.Value.{stridesOf, offset, block, reduceOf}
-use Rattle.reduction.specs.Internal.{reach, from}
-use Rattle.reduction.proofs.Reduction.{offset-last, offset-take, from-block, reaches}
+use Rattle.reduction.specs.Value.{stridesOf, offset, shifted, block, reduceOf}
+use Rattle.reduction.specs.Internal.{reach, from, Reads}
+use Rattle.reduction.proofs.Reduction.{offset-last, offset-take, read-at, from-block, reaches}
 use Rattle.grid.specs.declared.Quantity.{Quantity}
 use Rattle.grid.specs.declared.Quantity.the-variants.{Value, Component}
 use Rattle.grid.specs.Query.{GridAxis, outcome, countsOf, Found, refusedAt, places, find, originsOf, rowsOf, blockOf, valueOf, componentAt, componentsFrom}
@@ -242,6 +242,18 @@ module _ {n : ℕ} {gs : List GridAxis} {values : ℕ} (fit : Fit n gs values) {
 
     reached-by : (k : ℕ) → n ≡ k → base + reach (take k strides) < values
     reached-by k z = rw (← z) (pass-room fit (t .four) (t .spaced) (t .pass) done)
+
+    -- clause 5.5: ps are the query's places. Where the way of the reduction ends for js stands the value at origin + j on each axis
+    pub turn-read : (ps : List Placed) → foundAt gs count queries i ≡ places ps → (js : List ℕ) (read : ℕ) → Reads n base strides js read
+        → read ≡ offset (shifted (originsOf ps) js) (stridesOf (countsOf gs))
+    turn-read ps found js read r =
+        let few = fit .few in
+        let own = t .pass .so-far in
+        let all = so-far-all gs (queryAt count queries i) axis own (done ∙ sym (fit .counted)) in
+        let same : own .ps ≡ ps = cc in
+        let counted = length-map ps (λ (p : Placed). p .place .origin) ∙ ap length (sym same) ∙ own .many ∙ done in
+        let base-is = t .pass .base-is ∙ ap (λ (l : List Placed). offset (originsOf l) strides) same in
+        read-at n base (originsOf ps) js strides read counted (omega (arith, t .four)) base-is r ∙ ap (offset (shifted (originsOf ps) js)) (t .spaced)
 
     -- what the reductions over one to four axes ask
     abbrev pub reachOf : ℕ → ℕ

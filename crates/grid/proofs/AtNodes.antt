@@ -158,13 +158,13 @@ same-bool true b h k = sym (h refl)
 same-bool false true h k = k refl
 same-bool false false h k = refl
 
-same-numbers : (v v' s s' : Float) → T (eq v s) → T (eq v' s') → eq v v' ≡ eq s s'
+pub same-numbers : (v v' s s' : Float) → T (eq v s) → T (eq v' s') → eq v v' ≡ eq s s'
 same-numbers v v' s s' p q =
     let a = is-true (eq v s) p in
     let b = is-true (eq v' s') q in
     same-bool (eq v v') (eq s s') (λ e. eq-trans s v s' (eq-sym v s a) (eq-trans v v' s' e b)) (λ e. eq-trans v s v' a (eq-trans s s' v' e (eq-sym v' s' b)))
 
--- two tables within the premises, each with its own setting, hold different numbers at a node exactly when the answers are different numbers
+-- within the premises, each in a setting of its own, two tables' answers at a node are different numbers if and only if the stored ones are
 pub node-differs : (f : Format) (g g' : Grid) (is : List ℕ) (query : ℕ → Float) → g .checked ≡ Accepted → g' .checked ≡ Accepted → NodeCase f g is query → NodeCase f g' is query
     → (v : Float) × (v' : Float) × (valueAnswer f g query ≡ Value v) × (valueAnswer f g' query ≡ Value v') × (eq v v' ≡ eq (stored g is) (stored g' is))
 node-differs f g g' is query a a' c c' =

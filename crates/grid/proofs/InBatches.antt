@@ -19,7 +19,7 @@ use Rattle.grid.proofs.AtNodes.{NodeCase, node-value}
 use Rattle.grid.proofs.OfBlocks.{block-value, block-components}
 use Rattle.grid.proofs.Batches.{PlacedAt, placed-or-lowest, interp-unwritten, grad-unwritten, interp-holds, interp-keeps, grad-holds, grad-keeps}
 
--- ---- nodes: after the batch the query's entry holds the stored number, unless check 7 or an earlier query refuses
+-- ---- nodes: where check 7 passes and no query before it is refused, the query's entry is the stored number afterwards
 pub node-entry : (f : Format) (g : Grid) (is : List ℕ) (queries buffer : List Float) → valueChecks f g queries buffer ≡ Accepted → (i : ℕ) → i < length buffer → ((j : ℕ) → j < i → PlacedAt (foundAt (g .axes) (length buffer) queries) j)
     → NodeCase f g is (queryAt (length buffer) queries i) → T (eq (getD (interpBuffer f g queries buffer) i nan) (stored g is))
 node-entry f g is queries buffer checked i h before c =

@@ -1,4 +1,4 @@
--- Section 7: the queries run in order over the buffer at entry.
+-- Section 7, batches: from the caller's buffer on, each query in turn puts its answer into what the ones before it left.
 use Prim.Native.Nat.{ℕ, zero, suc, _+_, _*_, _/_}
 use mathlib.Core.Bool.{not, _||_}
 use mathlib.Core.List.{List, [], _∷_}

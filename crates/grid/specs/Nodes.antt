@@ -16,7 +16,7 @@ abbrev pub All : {A : Type 0} → (A → Type 0) → List A → Type 0
 All P [] = Unit
 All P (x ∷ xs) = P x × All P xs
 
--- a query at a node of the grid, one index per axis: every coordinate equals its axis's node as a number
+-- a query at a node of the grid, one index per axis: on each axis the coordinate is the node's number
 abbrev pub AtIndex : ℕ → List GridAxis → List ℕ → (ℕ → Float) → Type 0
 AtIndex axis [] [] query = Unit
 AtIndex axis (g ∷ gs) (i ∷ is) query = (i < g .count) × T (eq (query axis) (g .node i)) × AtIndex (suc axis) gs is query

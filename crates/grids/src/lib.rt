@@ -1,5 +1,5 @@
 // The grids of src/multicubic as values that a caller keeps: each holds what `new` of its kind is given, the slices by reference.
-// Every function takes its grid apart and makes the plain call, which checks the grid again; so a grid altered by hand meets its refusals.
+// Every function hands the fields of its grid to the plain call, which looks at all of them anew: what a caller wrote into them is refused as there.
 ghost use mathlib.Core.Path.{_≡_};
 ghost use lib.ListN.{length};
 ghost use lib.Ieee.{binary64};
@@ -69,7 +69,7 @@ pub fn regular_get_loc<'a>(g: MulticubicRegular<'a>, x: [f64; 4]) -> MarkedPlace
     regular::get_loc(g.axis_count, g.axes, g.vals, g.mode, x)
 }
 
-// The value at a query, or the refusal.
+// The value at a query, or the refusal. Of a value that is a NaN the contract says that it is one, and leaves its payload open.
 pub fn regular_interp_one<'a>(g: MulticubicRegular<'a>, x: [f64; 4]) -> MarkedAnswer
     ensures { λ r. ⌜ asAnswer (r .answer) ≡ valueAnswer binary64 (keptRegular binary64 (g .entry)) (at x) ⌝ }
     ensures { λ r. ⌜ r .marks ≡ markAnswer (keptRegular binary64 (g .entry)) (at x) ⌝ }
@@ -79,7 +79,7 @@ pub fn regular_interp_one<'a>(g: MulticubicRegular<'a>, x: [f64; 4]) -> MarkedAn
     regular::interp_one(g.axis_count, g.axes, g.vals, g.mode, x)
 }
 
-// The gradient at a query, or the refusal.
+// The gradient at a query, or the refusal. Of a component that is a NaN the contract says that it is one, and leaves its payload open.
 pub fn regular_interp_one_grad<'a>(g: MulticubicRegular<'a>, x: [f64; 4]) -> MarkedGradient
     ensures { λ r. ⌜ r .answer .outcome ≡ outcomeOf (keptRegular binary64 (g .entry)) (at x) ⌝ }
     ensures { λ r. ⌜ r .answer .gradient ≡ gradientAnswer binary64 (keptRegular binary64 (g .entry)) (at x) ⌝ }
@@ -89,7 +89,7 @@ pub fn regular_interp_one_grad<'a>(g: MulticubicRegular<'a>, x: [f64; 4]) -> Mar
     regular::interp_one_grad(g.axis_count, g.axes, g.vals, g.mode, x)
 }
 
-// The value of every query.
+// The value of every query. Of a value that is a NaN the contract says that it is one, and leaves its payload open.
 pub fn regular_interp<'a, 'b, 'c>(
     g: MulticubicRegular<'a>,
     queries: &'b [f64],
@@ -102,7 +102,7 @@ pub fn regular_interp<'a, 'b, 'c>(
     regular_batch::interp(g.axis_count, g.axes, g.vals, g.mode, queries, out)
 }
 
-// The gradient of every query.
+// The gradient of every query. Of a component that is a NaN the contract says that it is one, and leaves its payload open.
 pub fn regular_interp_grad<'a, 'b, 'c>(
     g: MulticubicRegular<'a>,
     queries: &'b [f64],
@@ -115,7 +115,8 @@ pub fn regular_interp_grad<'a, 'b, 'c>(
     regular_batch::interp_grad(g.axis_count, g.axes, g.vals, g.mode, queries, out)
 }
 
-// Makes the grid and asks it: for callers that can have no local of the struct.
+// Makes the grid and asks it: for callers that can have no local of the struct. Of a value that is a NaN the contract says that it is one, and
+// leaves its payload open.
 pub fn ask_regular(
     axis_count: usize,
     axes: [Axis; 4],
@@ -168,7 +169,7 @@ pub fn rectilinear_get_loc<'a, 'b>(g: MulticubicRectilinear<'a, 'b>, x: [f64; 4]
     rectilinear::get_loc(g.axis_count, g.counts, g.axes, g.vals, g.mode, x)
 }
 
-// The value at a query, or the refusal.
+// The value at a query, or the refusal. Of a value that is a NaN the contract says that it is one, and leaves its payload open.
 pub fn rectilinear_interp_one<'a, 'b>(g: MulticubicRectilinear<'a, 'b>, x: [f64; 4]) -> MarkedAnswer
     ensures { λ r. ⌜ asAnswer (r .answer) ≡ valueAnswer binary64 (keptRectilinear binary64 (g .entry)) (at x) ⌝ }
     ensures { λ r. ⌜ r .marks ≡ markAnswer (keptRectilinear binary64 (g .entry)) (at x) ⌝ }
@@ -178,7 +179,7 @@ pub fn rectilinear_interp_one<'a, 'b>(g: MulticubicRectilinear<'a, 'b>, x: [f64;
     rectilinear::interp_one(g.axis_count, g.counts, g.axes, g.vals, g.mode, x)
 }
 
-// The gradient at a query, or the refusal.
+// The gradient at a query, or the refusal. Of a component that is a NaN the contract says that it is one, and leaves its payload open.
 pub fn rectilinear_interp_one_grad<'a, 'b>(
     g: MulticubicRectilinear<'a, 'b>,
     x: [f64; 4],
@@ -191,7 +192,7 @@ pub fn rectilinear_interp_one_grad<'a, 'b>(
     rectilinear::interp_one_grad(g.axis_count, g.counts, g.axes, g.vals, g.mode, x)
 }
 
-// The value of every query.
+// The value of every query. Of a value that is a NaN the contract says that it is one, and leaves its payload open.
 pub fn rectilinear_interp<'a, 'b, 'c, 'd>(
     g: MulticubicRectilinear<'a, 'b>,
     queries: &'c [f64],
@@ -204,7 +205,7 @@ pub fn rectilinear_interp<'a, 'b, 'c, 'd>(
     rectilinear_batch::interp(g.axis_count, g.counts, g.axes, g.vals, g.mode, queries, out)
 }
 
-// The gradient of every query.
+// The gradient of every query. Of a component that is a NaN the contract says that it is one, and leaves its payload open.
 pub fn rectilinear_interp_grad<'a, 'b, 'c, 'd>(
     g: MulticubicRectilinear<'a, 'b>,
     queries: &'c [f64],
@@ -217,7 +218,8 @@ pub fn rectilinear_interp_grad<'a, 'b, 'c, 'd>(
     rectilinear_batch::interp_grad(g.axis_count, g.counts, g.axes, g.vals, g.mode, queries, out)
 }
 
-// Makes the grid and asks it: for callers that can have no local of the struct.
+// Makes the grid and asks it: for callers that can have no local of the struct. Of a value that is a NaN the contract says that it is one, and
+// leaves its payload open.
 pub fn ask_rectilinear(
     axis_count: usize,
     counts: [usize; 4],

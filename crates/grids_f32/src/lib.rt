@@ -1,6 +1,6 @@
 // f32: written by tools/width from crates/grids/src/lib.rt; what has no float is called there.
 // The grids of src/multicubic as values that a caller keeps: each holds what `new` of its kind is given, the slices by reference.
-// Every function takes its grid apart and makes the plain call, which checks the grid again; so a grid altered by hand meets its refusals.
+// Every function hands the fields of its grid to the plain call, which looks at all of them anew: what a caller wrote into them is refused as there.
 ghost use mathlib.Core.Path.{_≡_};
 ghost use lib.ListN.{length};
 ghost use lib.Ieee.{binary32};
@@ -70,7 +70,7 @@ pub fn regular_get_loc<'a>(g: MulticubicRegularF32<'a>, x: [f32; 4]) -> MarkedPl
     regular_f32::get_loc(g.axis_count, g.axes, g.vals, g.mode, x)
 }
 
-// The value at a query, or the refusal.
+// The value at a query, or the refusal. Of a value that is a NaN the contract says that it is one, and leaves its payload open.
 pub fn regular_interp_one<'a>(g: MulticubicRegularF32<'a>, x: [f32; 4]) -> MarkedAnswerF32
     ensures { λ r. ⌜ asAnswer (r .answer) ≡ valueAnswer binary32 (keptRegular binary32 (g .entry)) (at x) ⌝ }
     ensures { λ r. ⌜ r .marks ≡ markAnswer (keptRegular binary32 (g .entry)) (at x) ⌝ }
@@ -80,7 +80,7 @@ pub fn regular_interp_one<'a>(g: MulticubicRegularF32<'a>, x: [f32; 4]) -> Marke
     regular_f32::interp_one(g.axis_count, g.axes, g.vals, g.mode, x)
 }
 
-// The gradient at a query, or the refusal.
+// The gradient at a query, or the refusal. Of a component that is a NaN the contract says that it is one, and leaves its payload open.
 pub fn regular_interp_one_grad<'a>(g: MulticubicRegularF32<'a>, x: [f32; 4]) -> MarkedGradientF32
     ensures { λ r. ⌜ r .answer .outcome ≡ outcomeOf (keptRegular binary32 (g .entry)) (at x) ⌝ }
     ensures { λ r. ⌜ r .answer .gradient ≡ gradientAnswer binary32 (keptRegular binary32 (g .entry)) (at x) ⌝ }
@@ -90,7 +90,7 @@ pub fn regular_interp_one_grad<'a>(g: MulticubicRegularF32<'a>, x: [f32; 4]) -> 
     regular_f32::interp_one_grad(g.axis_count, g.axes, g.vals, g.mode, x)
 }
 
-// The value of every query.
+// The value of every query. Of a value that is a NaN the contract says that it is one, and leaves its payload open.
 pub fn regular_interp<'a, 'b, 'c>(
     g: MulticubicRegularF32<'a>,
     queries: &'b [f32],
@@ -103,7 +103,7 @@ pub fn regular_interp<'a, 'b, 'c>(
     regular_batch_f32::interp(g.axis_count, g.axes, g.vals, g.mode, queries, out)
 }
 
-// The gradient of every query.
+// The gradient of every query. Of a component that is a NaN the contract says that it is one, and leaves its payload open.
 pub fn regular_interp_grad<'a, 'b, 'c>(
     g: MulticubicRegularF32<'a>,
     queries: &'b [f32],
@@ -116,7 +116,8 @@ pub fn regular_interp_grad<'a, 'b, 'c>(
     regular_batch_f32::interp_grad(g.axis_count, g.axes, g.vals, g.mode, queries, out)
 }
 
-// Makes the grid and asks it: for callers that can have no local of the struct.
+// Makes the grid and asks it: for callers that can have no local of the struct. Of a value that is a NaN the contract says that it is one, and
+// leaves its payload open.
 pub fn ask_regular(
     axis_count: usize,
     axes: [AxisF32; 4],
@@ -169,7 +170,7 @@ pub fn rectilinear_get_loc<'a, 'b>(g: MulticubicRectilinearF32<'a, 'b>, x: [f32;
     rectilinear_f32::get_loc(g.axis_count, g.counts, g.axes, g.vals, g.mode, x)
 }
 
-// The value at a query, or the refusal.
+// The value at a query, or the refusal. Of a value that is a NaN the contract says that it is one, and leaves its payload open.
 pub fn rectilinear_interp_one<'a, 'b>(
     g: MulticubicRectilinearF32<'a, 'b>,
     x: [f32; 4],
@@ -182,7 +183,7 @@ pub fn rectilinear_interp_one<'a, 'b>(
     rectilinear_f32::interp_one(g.axis_count, g.counts, g.axes, g.vals, g.mode, x)
 }
 
-// The gradient at a query, or the refusal.
+// The gradient at a query, or the refusal. Of a component that is a NaN the contract says that it is one, and leaves its payload open.
 pub fn rectilinear_interp_one_grad<'a, 'b>(
     g: MulticubicRectilinearF32<'a, 'b>,
     x: [f32; 4],
@@ -195,7 +196,7 @@ pub fn rectilinear_interp_one_grad<'a, 'b>(
     rectilinear_f32::interp_one_grad(g.axis_count, g.counts, g.axes, g.vals, g.mode, x)
 }
 
-// The value of every query.
+// The value of every query. Of a value that is a NaN the contract says that it is one, and leaves its payload open.
 pub fn rectilinear_interp<'a, 'b, 'c, 'd>(
     g: MulticubicRectilinearF32<'a, 'b>,
     queries: &'c [f32],
@@ -208,7 +209,7 @@ pub fn rectilinear_interp<'a, 'b, 'c, 'd>(
     rectilinear_batch_f32::interp(g.axis_count, g.counts, g.axes, g.vals, g.mode, queries, out)
 }
 
-// The gradient of every query.
+// The gradient of every query. Of a component that is a NaN the contract says that it is one, and leaves its payload open.
 pub fn rectilinear_interp_grad<'a, 'b, 'c, 'd>(
     g: MulticubicRectilinearF32<'a, 'b>,
     queries: &'c [f32],
@@ -221,7 +222,8 @@ pub fn rectilinear_interp_grad<'a, 'b, 'c, 'd>(
     rectilinear_batch_f32::interp_grad(g.axis_count, g.counts, g.axes, g.vals, g.mode, queries, out)
 }
 
-// Makes the grid and asks it: for callers that can have no local of the struct.
+// Makes the grid and asks it: for callers that can have no local of the struct. Of a value that is a NaN the contract says that it is one, and
+// leaves its payload open.
 pub fn ask_rectilinear(
     axis_count: usize,
     counts: [usize; 4],

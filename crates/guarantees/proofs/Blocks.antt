@@ -1,4 +1,4 @@
--- The statements about blocks hold of what the definitions give, on any two grids. The two buffers' contents before the calls are unrelated.
+-- The statements about blocks hold of what the definitions give, on any two grids. Nothing is asked of what the two buffers held before.
 use mathlib.Core.Path.{_≡_, refl, sym, ap, _∙_, subst}
 use mathlib.Core.Logic.{_⊎_, inl, inr, ⊎-elim}
 use mathlib.Core.List.{List, [], _∷_, _++_}

@@ -19,10 +19,10 @@ use Rattle.grid.specs.Batch.{queryAt, foundAt, outcomeFrom, valueChecks, interp
 use Rattle.grid.specs.Edges.{AtClamped}
 use Rattle.grid.specs.Nodes.{stored, Fits}
 use Rattle.grid.proofs.Premises.{NodeLaws, Sized}
-use Rattle.grid.proofs.AtNodes.{AtEach, at-each, NodeCase, node-answer, node-differs}
+use Rattle.grid.proofs.AtNodes.{AtEach, at-each, NodeCase, node-answer, same-numbers, node-differs}
 use Rattle.grid.proofs.Batches.{PlacedAt, Lowest, refused-lowest, accepted-all, found-number, interp-refused, interp-answers}
 use Rattle.grid.proofs.InBatches.{node-entry}
-use Rattle.guarantees.specs.Statements.{IsAccepted, QueryAtNode, NodeRule, NodeCorollary, NodeInBatch, QueryClamped, HeldEdge, HeldInBatch}
+use Rattle.guarantees.specs.Statements.{IsAccepted, QueryAtNode, NodeRule, NodeCorollary, Reached, NodeInBatch, CorollaryInBatch, QueryClamped, HeldEdge, HeldInBatch}
 use Rattle.guarantees.proofs.Typing.{Typed}
 
 -- what a kind supplies of a grid: its sizes by the checks, the laws of its axes within the kind's premises, and the values by typing
@@ -77,16 +77,16 @@ module _ (f : Format) (premises : Type 0) (g : Grid) (kind : Supplied f premises
 
   -- a query whose rows are those of a node has the number stored there in its entry
   in-batch : (queries before after : List Float) (outcome : Outcome) → outcome ≡ interpOutcome f g queries before → after ≡ interpBuffer f g queries before → IsAccepted g
-      → (i : ℕ) (is : List ℕ) → i < length before → (numberOf outcome ≡ 7 → ⊥) → ((numberOf outcome ≡ 8) ⊎ (numberOf outcome ≡ 9) → queryOf outcome < i → ⊥)
+      → (i : ℕ) (is : List ℕ) → i < length before → Reached outcome i
       → NodeCase f g is (queryAt (length before) queries i) → T (eq (getD after i nan) (stored g is))
-  in-batch queries before after outcome o b taken i is h not-seven not-earlier case =
-      let ok = checked queries before after outcome o taken not-seven in
-      let placed = earlier queries before after outcome o taken not-seven i h not-earlier in
+  in-batch queries before after outcome o b taken i is h reached case =
+      let ok = checked queries before after outcome o taken (reached .0) in
+      let placed = earlier queries before after outcome o taken (reached .0) i h (reached .1) in
       subst (λ (l : List Float). T (eq (getD l i nan) (stored g is))) (sym b) (node-entry f g is queries before ok i h placed case)
 
   pub node-in-batch : (queries before after : List Float) (outcome : Outcome) → Typed f (at queries) → outcome ≡ interpOutcome f g queries before → after ≡ interpBuffer f g queries before → NodeInBatch premises g queries outcome before after
-  node-in-batch queries before after outcome typed o b i node h q not-seven not-earlier =
-      in-batch queries before after outcome o b (q .0) i node h not-seven not-earlier (at-node (queryAt (length before) queries i) (λ axis. typed _) node q)
+  node-in-batch queries before after outcome typed o b i node h q reached =
+      in-batch queries before after outcome o b (q .0) i node h reached (at-node (queryAt (length before) queries i) (λ axis. typed _) node q)
 
   -- where the edges are held, a kind supplies the rows of a query at a node or past an end, too
   module _ (rows : (query : ℕ → Float) → Typed f query → IsAccepted g → premises → (is : List ℕ) → AtClamped 0 (g .axes) is query → AtEach 0 (g .axes) is query) where
@@ -99,11 +99,21 @@ module _ (f : Format) (premises : Type 0) (g : Grid) (kind : Supplied f premises
         (n .0, e ∙ n .1, n .2)
 
     pub held-in-batch : (queries before after : List Float) (outcome : Outcome) → Typed f (at queries) → outcome ≡ interpOutcome f g queries before → after ≡ interpBuffer f g queries before → HeldInBatch premises g queries outcome before after
-    held-in-batch queries before after outcome typed o b i index h q not-seven not-earlier =
-        in-batch queries before after outcome o b (q .0) i index h not-seven not-earlier (clamped (queryAt (length before) queries i) (λ axis. typed _) index q)
+    held-in-batch queries before after outcome typed o b i index h q reached =
+        in-batch queries before after outcome o b (q .0) i index h reached (clamped (queryAt (length before) queries i) (λ axis. typed _) index q)
 
 pub node-corollary : (f : Format) (premises : Type 0) (g g' : Grid) → Supplied f premises g → Supplied f premises g' → (query : ℕ → Float) → Typed f query → (answer answer' : Answer) → answer ≡ valueAnswer f g query → answer' ≡ valueAnswer f g' query
     → NodeCorollary premises g g' query answer answer'
 node-corollary f premises g g' kind kind' query typed answer answer' e e' node h h' =
     let n = node-differs f g g' node query (h .0) (h' .0) (at-node f premises g kind query typed node h) (at-node f premises g' kind' query typed node h') in
     (n .0, n .1, e ∙ n .2, e' ∙ n .3, n .4)
+
+-- in a batch: each entry is the number that its own table stores
+pub corollary-in-batch : (f : Format) (premises : Type 0) (g g' : Grid) → Supplied f premises g → Supplied f premises g' → (queries before after before' after' : List Float) (outcome outcome' : Outcome) → Typed f (at queries)
+    → outcome ≡ interpOutcome f g queries before → after ≡ interpBuffer f g queries before → outcome' ≡ interpOutcome f g' queries before' → after' ≡ interpBuffer f g' queries before'
+    → CorollaryInBatch premises g g' queries outcome outcome' before after before' after'
+corollary-in-batch f premises g g' kind kind' queries before after before' after' outcome outcome' typed o b o' b' len i node h q q' reached reached' =
+    same-numbers (getD after i nan) (getD after' i nan) (stored g node) (stored g' node)
+    (node-in-batch f premises g kind queries before after outcome typed o b i node h q reached)
+    (node-in-batch f premises g' kind' queries before' after' outcome' typed o' b' i node (subst (λ (c : ℕ). i < c) len h)
+    (subst (λ (c : ℕ). QueryAtNode premises g' node (queryAt c queries i)) len q') reached')

@@ -38,16 +38,27 @@ NodeCorollary premises g g' query answer answer' =
     (node : List ℕ) → QueryAtNode premises g node query → QueryAtNode premises g' node query
     → (v : Float) × (v' : Float) × (answer ≡ Value v) × (answer' ≡ Value v') × (eq v v' ≡ eq (stored g node) (stored g' node))
 
--- after `interp` the entry of a query that is at a node in some sense holds its number, unless the answer is 7, or 8 or 9 with an earlier query
+-- a batch with this outcome came to query i: the number is not 7, nor 8 or 9 with an earlier query
+abbrev pub Reached : Outcome → ℕ → Type 0
+Reached outcome i = (numberOf outcome ≡ 7 → ⊥) × ((numberOf outcome ≡ 8) ⊎ (numberOf outcome ≡ 9) → queryOf outcome < i → ⊥)
+
+-- after `interp` the entry of a query that is at a node in some sense, and that the batch came to, holds its number
 abbrev pub EntryHolds : (List ℕ → (ℕ → Float) → Type 0) → Grid → List Float → Outcome → List Float → List Float → Type 0
 EntryHolds at-node g queries outcome before after =
     (i : ℕ) (node : List ℕ) → i < length before → at-node node (queryAt (length before) queries i)
-    → (numberOf outcome ≡ 7 → ⊥) → ((numberOf outcome ≡ 8) ⊎ (numberOf outcome ≡ 9) → queryOf outcome < i → ⊥)
-    → T (eq (getD after i nan) (stored g node))
+    → Reached outcome i → T (eq (getD after i nan) (stored g node))
 
 -- 8.3
 abbrev pub NodeInBatch : Type 0 → Grid → List Float → Outcome → List Float → List Float → Type 0
 NodeInBatch premises g = EntryHolds (QueryAtNode premises g) g
+
+-- 8.4 after `interp` of the same queries on both into buffers of one length: where both came to the query, its two entries are the same number exactly
+-- where the tables store the same number
+abbrev pub CorollaryInBatch : Type 0 → Grid → Grid → List Float → Outcome → Outcome → List Float → List Float → List Float → List Float → Type 0
+CorollaryInBatch premises g g' queries outcome outcome' before after before' after' =
+    let c = length before in
+    c ≡ length before' → (i : ℕ) (node : List ℕ) → i < c → QueryAtNode premises g node (queryAt c queries i) → QueryAtNode premises g' node (queryAt c queries i)
+    → Reached outcome i → Reached outcome' i → eq (getD after i nan) (getD after' i nan) ≡ eq (stored g node) (stored g' node)
 
 -- ---- held edges
 -- 8.6: a query that is on each axis at a node or past an end, on an accepted grid within the premises, and the index so clamped. The grid holds its
@@ -111,8 +122,9 @@ pub record OwedAlone (premises : Type 0) (g g' : Grid) (query : ℕ → Float) (
   pub block : BlockRule g g' query answer answer'
   pub gradient-block : BlockGradient g g' query outcome outcome' gradient gradient'
 
--- in a batch: `interp`, its outcome and the two value buffers, and `interp_grad`, the two gradient buffers
-pub record OwedInBatch (f : Format) (premises : Type 0) (g g' : Grid) (queries : List Float) (outcome : Outcome) (before after before' after' : List Float) (grad grad-after grad' grad-after' : List Float) : Type 0 where
+-- in a batch: `interp`, its two outcomes and value buffers, and `interp_grad`, the two gradient buffers
+pub record OwedInBatch (f : Format) (premises : Type 0) (g g' : Grid) (queries : List Float) (outcome outcome' : Outcome) (before after before' after' : List Float) (grad grad-after grad' grad-after' : List Float) : Type 0 where
   pub node : NodeInBatch premises g queries outcome before after
+  pub corollary : CorollaryInBatch premises g g' queries outcome outcome' before after before' after'
   pub block : BlockInBatch f g g' queries before after before' after'
   pub columns : BlockInColumns f g g' queries grad grad-after grad' grad-after'

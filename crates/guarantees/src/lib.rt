@@ -2,6 +2,7 @@
 // in regular_guarantees and rectilinear_guarantees.
 use multicubic::MarkedAnswer;
 use multicubic::MarkedGradient;
+use multicubic::Outcome;
 
 // What two tables answer to a query.
 pub struct TwoTables {
@@ -9,4 +10,10 @@ pub struct TwoTables {
     pub gradient: MarkedGradient,
     pub other_value: MarkedAnswer,
     pub other_gradient: MarkedGradient,
+}
+
+// The outcomes of `interp` on two tables.
+pub struct TwoOutcomes {
+    pub outcome: Outcome,
+    pub other_outcome: Outcome,
 }

@@ -15,7 +15,7 @@ use Rattle.multicubic.specs.Answers.{numberOf, placeOutcome}
 use Rattle.multicubic.specs.declared.EdgeMode.{EdgeMode}
 use Rattle.multicubic.specs.declared.EdgeMode.the-variants.{Cubic, Straight, Held}
 
--- L raised to 0, then lowered to n-4
+-- the block's first index: L, but not below 0 and not above n-4
 unfoldable pub originOf : ℕ → ℤ → ℕ
 originOf n (negsuc k) = 0
 originOf n (pos l) = min l (n - 4)
@@ -48,7 +48,7 @@ nowhere = record { origin = 0; class = None }
 abbrev pub unmarked : Marks
 unmarked = record { below = false; above = false }
 
--- `linearize_extrapolation`: the two Outside classes follow a straight line
+-- `linearize_extrapolation`: past the ends, in OutsideLow and OutsideHigh, a straight line in place of the cubic
 abbrev pub straightOf : EdgeMode → Bool
 straightOf Cubic = false
 straightOf Straight = true

@@ -66,9 +66,10 @@ fn locate(
     while i < axis_count {
         let end = start + counts[i];
         let given = x[i];
-        let replaced = replaced_at(&axes[start..end], given, mode);
-        let used = hold(&axes[start..end], given, replaced);
-        let loc = rectilinear_axis::get_loc(&axes[start..end], used);
+        let entries = &axes[start..end];
+        let replaced = replaced_at(entries, given, mode);
+        let used = hold(entries, given, replaced);
+        let loc = rectilinear_axis::get_loc(entries, used);
         let place = match loc {
             Loc::At(place) => place,
             Loc::NotANumber => return unplaced(place_outcome(0, i, loc)),
@@ -241,7 +242,7 @@ pub fn get_loc(
     MarkedPlaces { answer, marks }
 }
 
-// The value at a query, or the refusal.
+// The value at a query, or the refusal. Of a value that is a NaN the contract says that it is one, and leaves its payload open.
 pub fn interp_one(
     axis_count: usize,
     counts: [usize; 4],
@@ -260,7 +261,7 @@ pub fn interp_one(
     MarkedAnswer { answer, marks }
 }
 
-// The gradient at a query, or the refusal.
+// The gradient at a query, or the refusal. Of a component that is a NaN the contract says that it is one, and leaves its payload open.
 pub fn interp_one_grad(
     axis_count: usize,
     counts: [usize; 4],

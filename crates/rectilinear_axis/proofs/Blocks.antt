@@ -5,7 +5,7 @@ use lib.Dec.{T}
 use lib.Ieee.{Float, Format, sub, neg, div, fits}
 use lib.Ieee.Scale.{finite}
 use Rattle.ieee.specs.Numbers.{one}
-use Rattle.ieee.proofs.ZeroOne.{Same, same-trans}
+use Rattle.ieee.proofs.ZeroOne.{Same, same-refl, same-trans}
 use Rattle.ieee.proofs.Cancel.{neg-zero, neg-same, sub-self-nil, sub-swap, sub-same-left, sub-same-zero, div-same-one, div-zero}
 use Rattle.ieee.proofs.Bound.{Between}
 use Rattle.multicubic.specs.declared.Saturation.the-variants.{None, InsideLow, OutsideLow, InsideHigh}
@@ -48,3 +48,8 @@ module _ (f : Format) (straight : Bool) (g0 g1 g2 g3 x : Float) where
       either : (straight : Bool) → OneAt 0 (lowOf f one (div f (sub f g2 g1) (sub f g1 g0)) straight)
       either true = line-row f _ _ (false, sub-self-nil f one tt) (slopes f _ _ one-between (ratio f _ _ b a))
       either false = low-row-one f _ _ (at-one f) (slopes f _ _ one-between (ratio f _ _ b a))
+
+-- clause 9.4, must-fail/nearest_point.edit: by x2 in place of x every query of class None has the row of the stored point at or above it, and a node its
+-- own. The rows at the nodes do not tell that reader from this one; the contracts do
+pub row-above : (f : Format) (straight : Bool) (g0 g1 g2 g3 : Float) → Held f g1 → Gap f g0 g1 → Gap f g1 g2 → Gap f g2 g3 → OneAt 2 (weightsOf f None straight (g0 ∷ g1 ∷ g2 ∷ g3 ∷ []) g2)
+row-above f straight g0 g1 g2 g3 k a b c = mid f straight g0 g1 g2 g3 g2 k a b c (same-refl g2)

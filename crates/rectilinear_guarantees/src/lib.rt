@@ -14,6 +14,7 @@ ghost use Rattle.rectilinear_order.specs.Grid.{axesOf, Rising, GapsAbove};
 ghost use Rattle.rectilinear_query.specs.Grid.{checksOf, gridOf, AllPremises};
 ghost use Rattle.guarantees.specs.Marked.{UnmarkedAtNode};
 ghost use Rattle.guarantees.specs.Statements.{AnswersOf, BuffersOf, HeldEdge, HeldInBatch, OwedAlone, OwedInBatch};
+use guarantees::TwoOutcomes;
 use guarantees::TwoTables;
 use multicubic::EdgeMode;
 use multicubic::MarkedAnswer;
@@ -73,14 +74,16 @@ pub fn in_batch(
     other_mode: EdgeMode,
     other_out: &mut [f64],
     other_grad: &mut [f64],
-) -> Outcome
+) -> TwoOutcomes
     ensures { λ r. ⌜ OwedInBatch binary64 (AllPremises binary64 (axesOf (take «axis_count» counts) (now (axes .entry))))
         (gridOf binary64 «axis_count» counts (now (axes .entry)) (now (vals .entry)) mode)
         (gridOf binary64 «axis_count» counts (now (axes .entry)) (now («other_vals» .entry)) «other_mode»)
-        (now (queries .entry)) r (now (out .entry)) (now (out .exit)) (now («other_out» .entry)) (now («other_out» .exit))
+        (now (queries .entry)) (r .outcome) (r .«other_outcome») (now (out .entry)) (now (out .exit)) (now («other_out» .entry)) (now («other_out» .exit))
         (now (grad .entry)) (now (grad .exit)) (now («other_grad» .entry)) (now («other_grad» .exit)) ⌝ }
-    ensures { λ r. ⌜ r ≡ interpOutcome binary64 (gridOf binary64 «axis_count» counts (now (axes .entry)) (now (vals .entry)) mode)
+    ensures { λ r. ⌜ r .outcome ≡ interpOutcome binary64 (gridOf binary64 «axis_count» counts (now (axes .entry)) (now (vals .entry)) mode)
         (now (queries .entry)) (now (out .entry)) ⌝ }
+    ensures { λ r. ⌜ r .«other_outcome» ≡ interpOutcome binary64 (gridOf binary64 «axis_count» counts (now (axes .entry)) (now («other_vals» .entry)) «other_mode»)
+        (now (queries .entry)) (now («other_out» .entry)) ⌝ }
     ensures { λ r. ⌜ BuffersOf binary64 (gridOf binary64 «axis_count» counts (now (axes .entry)) (now (vals .entry)) mode)
         (now (queries .entry)) (now (out .entry)) (now (out .exit)) (now (grad .entry)) (now (grad .exit)) ⌝ }
     ensures { λ r. ⌜ BuffersOf binary64 (gridOf binary64 «axis_count» counts (now (axes .entry)) (now («other_vals» .entry)) «other_mode»)
@@ -88,7 +91,7 @@ pub fn in_batch(
 {
     let outcome = rectilinear_batch::interp(axis_count, counts, axes, vals, mode, queries, out);
     rectilinear_batch::interp_grad(axis_count, counts, axes, vals, mode, queries, grad);
-    rectilinear_batch::interp(
+    let other_outcome = rectilinear_batch::interp(
         axis_count,
         counts,
         axes,
@@ -106,7 +109,10 @@ pub fn in_batch(
         queries,
         other_grad,
     );
-    outcome
+    TwoOutcomes {
+        outcome,
+        other_outcome,
+    }
 }
 
 // Clause 8.6: a query past the ends, or at nodes, of a grid that holds its edges.

@@ -15,6 +15,7 @@ ghost use Rattle.rectilinear_query.specs.Grid.{checksOf, gridOf, AllPremises};
 ghost use Rattle.guarantees.specs.Marked.{UnmarkedAtNode};
 ghost use Rattle.guarantees.specs.Statements.{AnswersOf, BuffersOf, HeldEdge, HeldInBatch, OwedAlone, OwedInBatch};
 ghost use Rattle.multicubic_f32.specs.Same.{asAnswer};
+use guarantees::TwoOutcomes;
 use guarantees_f32::TwoTablesF32;
 use multicubic::EdgeMode;
 use multicubic::Outcome;
@@ -81,14 +82,16 @@ pub fn in_batch(
     other_mode: EdgeMode,
     other_out: &mut [f32],
     other_grad: &mut [f32],
-) -> Outcome
+) -> TwoOutcomes
     ensures { λ r. ⌜ OwedInBatch binary32 (AllPremises binary32 (axesOf (take «axis_count» counts) (now (axes .entry))))
         (gridOf binary32 «axis_count» counts (now (axes .entry)) (now (vals .entry)) mode)
         (gridOf binary32 «axis_count» counts (now (axes .entry)) (now («other_vals» .entry)) «other_mode»)
-        (now (queries .entry)) r (now (out .entry)) (now (out .exit)) (now («other_out» .entry)) (now («other_out» .exit))
+        (now (queries .entry)) (r .outcome) (r .«other_outcome») (now (out .entry)) (now (out .exit)) (now («other_out» .entry)) (now («other_out» .exit))
         (now (grad .entry)) (now (grad .exit)) (now («other_grad» .entry)) (now («other_grad» .exit)) ⌝ }
-    ensures { λ r. ⌜ r ≡ interpOutcome binary32 (gridOf binary32 «axis_count» counts (now (axes .entry)) (now (vals .entry)) mode)
+    ensures { λ r. ⌜ r .outcome ≡ interpOutcome binary32 (gridOf binary32 «axis_count» counts (now (axes .entry)) (now (vals .entry)) mode)
         (now (queries .entry)) (now (out .entry)) ⌝ }
+    ensures { λ r. ⌜ r .«other_outcome» ≡ interpOutcome binary32 (gridOf binary32 «axis_count» counts (now (axes .entry)) (now («other_vals» .entry)) «other_mode»)
+        (now (queries .entry)) (now («other_out» .entry)) ⌝ }
     ensures { λ r. ⌜ BuffersOf binary32 (gridOf binary32 «axis_count» counts (now (axes .entry)) (now (vals .entry)) mode)
         (now (queries .entry)) (now (out .entry)) (now (out .exit)) (now (grad .entry)) (now (grad .exit)) ⌝ }
     ensures { λ r. ⌜ BuffersOf binary32 (gridOf binary32 «axis_count» counts (now (axes .entry)) (now («other_vals» .entry)) «other_mode»)
@@ -96,7 +99,7 @@ pub fn in_batch(
 {
     let outcome = rectilinear_batch_f32::interp(axis_count, counts, axes, vals, mode, queries, out);
     rectilinear_batch_f32::interp_grad(axis_count, counts, axes, vals, mode, queries, grad);
-    rectilinear_batch_f32::interp(
+    let other_outcome = rectilinear_batch_f32::interp(
         axis_count,
         counts,
         axes,
@@ -114,7 +117,10 @@ pub fn in_batch(
         queries,
         other_grad,
     );
-    outcome
+    TwoOutcomes {
+        outcome,
+        other_outcome,
+    }
 }
 
 // Clause 8.6: a query past the ends, or at nodes, of a grid that holds its edges.

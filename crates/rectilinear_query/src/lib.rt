@@ -139,23 +139,17 @@ pub fn answer_at(
     while axis < axis_count {
         let given = queries[at];
         let end = start + counts[axis];
-        let replaced = replaced_at(&axes[start..end], given, mode);
-        let used = hold(&axes[start..end], given, replaced);
-        let loc = get_loc(&axes[start..end], used);
+        let entries = &axes[start..end];
+        let replaced = replaced_at(entries, given, mode);
+        let used = hold(entries, given, replaced);
+        let loc = get_loc(entries, used);
         let place = match loc {
             Loc::At(place) => place,
             Loc::NotANumber => return answered(place_outcome(i, axis, loc), 0.0),
             Loc::Unplaceable => return answered(place_outcome(i, axis, loc), 0.0),
         };
         let derivative = is_component(quantity, axis);
-        rows[axis] = row_at(
-            &axes[start..end],
-            used,
-            place,
-            straight,
-            derivative,
-            replaced,
-        );
+        rows[axis] = row_at(entries, used, place, straight, derivative, replaced);
         let o = place.origin;
         let s = strides[axis];
         base = base + o * s;

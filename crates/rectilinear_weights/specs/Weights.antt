@@ -27,8 +27,8 @@ interior f h k0 k1 =
     ∷ mul f h11 (getD k1 2 nan)
     ∷ []
 
--- The end slope is twice the secant less the neighbouring slope k. The unused weight is +0: the last at the low end, the first at
--- the high end.
+-- The slope at the end point and k, that of the point beside it, have the secant for their mean. The unused weight is +0: the last at the
+-- low end, the first at the high end.
 unfoldable pub cubicLow : Format → List Float → List Float → List Float
 cubicLow f h k =
     let h00 = getD h 0 nan in

@@ -11,7 +11,7 @@ use lib.Seq.{take-suc, length-take-le}
 use lib.Ieee.{Float, nan, Format}
 use Rattle.interp_math.specs.Dot.{dot4}
 use Rattle.reduction.specs.Value.{offset, shifted, block, four, reduceOf}
-use Rattle.reduction.specs.Internal.{reach, from, added, indexAt}
+use Rattle.reduction.specs.Internal.{reach, from, added, Along, Reads}
 use Rattle.reduction.specs.Nodes.{InBlock}
 
 -- one step: the values after axis 0 is summed
@@ -43,38 +43,39 @@ pub added-is : (s j i : ℕ) → added s j i ≡ i + j * s
 added-is s zero i = omega arith
 added-is s (suc j) i = let e = added-is s j i in omega (arith, suc-mul j s)
 
--- from any index on: as far from it as the sum of index × stride
-pub index-is : (base : ℕ) (ss js : List ℕ) → length js ≤ length ss → indexAt base ss js ≡ base + offset js ss
-index-is base ss [] h = omega arith
-index-is base [] (j ∷ js) h = absurd (omega arith)
-index-is base (s ∷ ss) (j ∷ js) h = let e = index-is base ss js (omega arith) in let a = added-is s j (indexAt base ss js) in omega arith
+-- where three strides and r more lie within the values, r lies within them from each of the four indices along an axis
+pub along-room : (base stride r values j : ℕ) (is : List ℕ) → Along base stride is → j < 4 → base + r + 3 * stride < values → getD is j 0 + r < values
+along-room base stride r values j is along l room =
+    let m : j * stride ≤ 3 * stride = mul-le-mul-right stride (omega arith) in
+    let a = along j l in
+    let e = added-is stride j base in
+    omega arith
 
--- from the index for j along the last axis, what is read for js is what is read from base for js and j
-pub index-last : (base j : ℕ) (ss js : List ℕ) → length js < length ss → indexAt base ss (js ++ (j ∷ [])) ≡ indexAt (added (getD ss (length js) 0) j base) ss js
-index-last base j [] js h = absurd (omega arith)
-index-last base j (s ∷ ss) [] h = refl
-index-last base j (s ∷ ss) (i ∷ js) h = ap (added s i) (index-last base j ss js (omega arith))
-
--- i is the index for j along axis k: from i, what is read for js on the axes before k is what is read from base for js and j
-abbrev pub Carried : ℕ → ℕ → List ℕ → ℕ → ℕ → Type 0
-Carried k base ss j i = (js : List ℕ) → length js ≡ k → indexAt i ss js ≡ indexAt base ss (js ++ (j ∷ []))
-
--- so are the four that the code has by additions; and where three strides and r more lie within the values, r lies within them from each
-pub carry : (k base j i r values : ℕ) (ss : List ℕ) → k < length ss → j < 4 → i ≡ added (getD ss k 0) j base → base + r + 3 * getD ss k 0 < values → Carried k base ss j i × (i + r < values)
-carry k base j i r values ss h l e room =
-    let m : j * getD ss k 0 ≤ 3 * getD ss k 0 = mul-le-mul-right (getD ss k 0) (omega arith) in
-    let a = added-is (getD ss k 0) j base in (
-      (λ js n. ap (λ (x : ℕ). indexAt x ss js) e ∙ ap (λ (x : ℕ). indexAt (added (getD ss x 0) j base) ss js) (sym n) ∙ sym (index-last base j ss js (omega arith))),
-      omega arith,
-    )
-
--- ---- from a base index
 pub offset-last : (js : List ℕ) (j : ℕ) (ss : List ℕ) → length js < length ss → offset (js ++ (j ∷ [])) ss ≡ offset js ss + j * getD ss (length js) 0
 offset-last [] j [] h = absurd (omega arith)
 offset-last [] j (s ∷ ss) h = omega arith
 offset-last (i ∷ is) j [] h = absurd (omega arith)
 offset-last (i ∷ is) j (s ∷ ss) h = let e = offset-last is j ss (omega arith) in omega (arith, e)
 
+-- from the index for j along axis k on, the values for js are those for js and j from base on
+handed-on : (k base j : ℕ) (is ss js : List ℕ) → k < length ss → Along base (getD ss k 0) is → j < 4 → length js ≡ k → base + offset (js ++ (j ∷ [])) ss ≡ getD is j 0 + offset js ss
+handed-on k base j is ss js h along l n =
+    let a = along j l in
+    let e = added-is (getD ss k 0) j base in
+    let o = offset-last js j ss (omega arith) ∙ ap (λ (x : ℕ). offset js ss + j * getD ss x 0) n in
+    omega arith
+
+-- each way leads as far from its base as the sum of index × stride
+pub reads-offset : (n base : ℕ) (ss js : List ℕ) (i : ℕ) → n ≤ length ss → Reads n base ss js i → (length js ≡ n) × (i ≡ base + offset js ss)
+reads-offset zero base ss js i h r = (ap length (r .0), r .1 ∙ sym (add-zero base) ∙ ap (λ (l : List ℕ). base + offset l ss) (sym (r .0)))
+reads-offset (suc k) base ss js i h r =
+    let e = reads-offset k (getD (r .0) (r .1) 0) ss (r .2) i (omega arith) (r .6) in
+    let o = handed-on k base (r .1) (r .0) ss (r .2) (omega arith) (r .3) (r .4) (e .0) in (
+      ap length (r .5) ∙ length-append (r .2) (r .1 ∷ []) ∙ omega (arith, e .0),
+      e .1 ∙ sym o ∙ ap (λ (l : List ℕ). base + offset l ss) (sym (r .5)),
+    )
+
+-- ---- from a base index
 in-length : (n : ℕ) (js : List ℕ) → InBlock n js → length js ≡ n
 in-length zero [] h = refl
 in-length zero (j ∷ js) h = absurd h
@@ -82,14 +83,11 @@ in-length (suc n) [] h = absurd h
 in-length (suc n) (j ∷ js) h = ap suc (in-length n js (h .1))
 
 -- is: the indices along axis k
-module _ (f : Format) (vals : List Float) (w : List (List Float)) (ss : List ℕ) (k base : ℕ) (kw : k < length w) (ks : k < length ss) (is : List ℕ) (carried : (j : ℕ) → j < 4 → Carried k base ss j (getD is j 0)) where
+module _ (f : Format) (vals : List Float) (w : List (List Float)) (ss : List ℕ) (k base : ℕ) (kw : k < length w) (ks : k < length ss) (is : List ℕ) (along : Along base (getD ss k 0) is) where
   at : (j : ℕ) → j < 4 → reduceOf f (take k w) (λ js. from vals ss base (js ++ (j ∷ []))) ≡ reduceOf f (take k w) (from vals ss (getD is j 0))
-  at j l = reduce-agree f (take k w) (λ js. from vals ss base (js ++ (j ∷ []))) (from vals ss (getD is j 0)) (λ js b. ap (λ (o : ℕ). getD vals o nan) (moved js b))
-    where
-      moved : (js : List ℕ) → InBlock (length (take k w)) js → base + offset (js ++ (j ∷ [])) ss ≡ getD is j 0 + offset js ss
-      moved js b =
-          let n : length js ≡ k = in-length (length (take k w)) js b ∙ length-take-le k w (omega arith) in
-          sym (index-is base ss (js ++ (j ∷ [])) (rw (length-append js (j ∷ [])) (omega arith))) ∙ sym (carried j l js n) ∙ index-is (getD is j 0) ss js (omega arith)
+  at j l =
+      reduce-agree f (take k w) (λ js. from vals ss base (js ++ (j ∷ []))) (from vals ss (getD is j 0))
+      (λ js b. ap (λ (o : ℕ). getD vals o nan) (handed-on k base j is ss js ks along l (in-length (length (take k w)) js b ∙ length-take-le k w (omega arith))))
 
   -- the reduction over axes 0 to k is the four-term sum, over axis k, of the reductions over the axes before it
   pub reduce-step : reduceOf f (take (suc k) w) (from vals ss base) ≡ dot4 f (getD w k []) (four (λ j. reduceOf f (take k w) (from vals ss (getD is j 0))))
@@ -127,10 +125,6 @@ shifted-most [] js = omega arith
 shifted-most (o ∷ os) [] = omega arith
 shifted-most (o ∷ os) (j ∷ js) = let i = shifted-most os js in omega arith
 
--- clause 5.5: from the sum of origin × stride on, the index for js is the sum of (origin + j) × stride
-pub index-sum : (os js ss : List ℕ) → length js ≡ length os → length os ≤ length ss → indexAt (offset os ss) ss js ≡ offset (shifted os js) ss
-index-sum os js ss e d = index-is (offset os ss) ss js (omega arith) ∙ sym (offset-shifted os js ss e d)
-
 -- the strides of the first n of four axes
 pub offset-take : (js ss : List ℕ) (n : ℕ) → length js ≤ n → offset js (take n ss) ≡ offset js ss
 offset-take [] ss n h = refl
@@ -139,20 +133,22 @@ offset-take (j ∷ js) [] (suc n) h = refl
 offset-take (j ∷ js) (s ∷ ss) zero h = absurd (omega arith)
 offset-take (j ∷ js) (s ∷ ss) (suc n) h = ap (λ (z : ℕ). j * s + z) (offset-take js ss n (omega arith))
 
--- so, in a call on a grid of n axes whose strides are the first n of ss: what is read for js stands at the sum of (origin + j) × stride
-pub read-at : (n base : ℕ) (os js ss : List ℕ) → length os ≡ n → length js ≡ n → n ≤ length ss → base ≡ offset os ss → indexAt base ss js ≡ offset (shifted os js) (take n ss)
-read-at n base os js ss lo lj ls e =
-    ap (λ (b : ℕ). indexAt b ss js) e
-    ∙ index-sum os js ss (omega arith) (omega arith)
-    ∙ sym (offset-take (shifted os js) ss n (let m = shifted-most os js in omega arith))
+-- from the sum of origin × stride on: the sum of (origin + j) × stride
+from-origins : (n base : ℕ) (os js ss : List ℕ) → length os ≡ n → length js ≡ n → n ≤ length ss → base ≡ offset os ss → base + offset js ss ≡ offset (shifted os js) (take n ss)
+from-origins n base os js ss lo lj ls e =
+    let o = offset-shifted os js ss (omega arith) (omega arith) in
+    let sum : base + offset js ss ≡ offset (shifted os js) ss = omega arith in
+    sum ∙ sym (offset-take (shifted os js) ss n (let m = shifted-most os js in omega arith))
+
+-- clause 5.5, in a call on n axes whose strides are the first n of ss: every way from the sum of origin × stride leads to the sum of (origin + j) × stride
+pub read-at : (n base : ℕ) (os js ss : List ℕ) (i : ℕ) → length os ≡ n → n ≤ length ss → base ≡ offset os ss → Reads n base ss js i → i ≡ offset (shifted os js) (take n ss)
+read-at n base os js ss i lo ls e r = let h = reads-offset n base ss js i ls r in h .1 ∙ from-origins n base os js ss lo (h .0) ls e
 
 pub from-block : (f : Format) (vals : List Float) (ws : List (List Float)) (ss os : List ℕ) (n base : ℕ) → length ws ≡ n → length os ≡ n → n ≤ length ss → base ≡ offset os ss
     → reduceOf f ws (from vals ss base) ≡ reduceOf f ws (block vals (take n ss) os)
 from-block f vals ws ss os n base lw lo ls e =
     reduce-agree f ws (from vals ss base) (block vals (take n ss) os)
-    (λ js i.
-    let l : length js ≡ n = in-length (length ws) js i ∙ lw in
-    ap (λ (o : ℕ). getD vals o nan) (sym (index-is base ss js (omega arith)) ∙ read-at n base os js ss lo l ls e))
+    (λ js i. ap (λ (o : ℕ). getD vals o nan) (from-origins n base os js ss lo (in-length (length ws) js i ∙ lw) ls e))
 
 -- how far the reductions over one to four axes reach
 pub reaches : (ss : List ℕ) → length ss ≡ 4 → (reach (take 1 ss) ≡ 3 * getD ss 0 0) × (reach (take 2 ss) ≡ 3 * getD ss 0 0 + 3 * getD ss 1 0) × (reach (take 3 ss) ≡ 3 * getD ss 0 0 + 3 * getD ss 1 0 + 3 * getD ss 2 0) × (reach (take 4 ss) ≡ 3 * getD ss 0 0 + 3 * getD ss 1 0 + 3 * getD ss 2 0 + 3 * getD ss 3 0)

@@ -1,6 +1,7 @@
 -- How the code reads a block: no definition of the specification's, and none of it need be believed, since no entry point's contract mentions it.
-use Prim.Native.Nat.{ℕ, zero, suc, _+_, _*_}
-use mathlib.Core.List.{List, [], _∷_}
+use Prim.Native.Nat.{ℕ, zero, suc, _+_, _*_, _<_}
+use mathlib.Core.Path.{_≡_}
+use mathlib.Core.List.{List, [], _∷_, _++_}
 use lib.ListN.{getD}
 use lib.Ieee.{Float, nan}
 use Rattle.reduction.specs.Value.{offset}
@@ -14,12 +15,17 @@ abbrev pub reach : List ℕ → ℕ
 reach [] = 0
 reach (s ∷ ss) = 3 * s + reach ss
 
--- clause 5.5: the index that the code has for one j per axis, by additions alone: each axis's stride is added j times, the last axis's first
+-- clause 5.5: one stride added j times
 abbrev pub added : ℕ → ℕ → ℕ → ℕ
 added stride zero i = i
 added stride (suc j) i = added stride j i + stride
 
-abbrev pub indexAt : ℕ → List ℕ → List ℕ → ℕ
-indexAt base ss [] = base
-indexAt base [] (j ∷ js) = base
-indexAt base (s ∷ ss) (j ∷ js) = added s j (indexAt base ss js)
+-- what `along` gives: the four indices along an axis from base on
+abbrev pub Along : ℕ → ℕ → List ℕ → Type 0
+Along base stride is = (j : ℕ) → j < 4 → getD is j 0 ≡ added stride j base
+
+-- the way of the code over n axes, from base to the index i at which the value for js is read: `along` the last axis, and from the one of its four
+-- indices that is handed on, the way over the axes before it
+abbrev pub Reads : ℕ → ℕ → List ℕ → List ℕ → ℕ → Type 0
+Reads zero base ss js i = (js ≡ []) × (i ≡ base)
+Reads (suc k) base ss js i = (is : List ℕ) × (j : ℕ) × (before : List ℕ) × Along base (getD ss k 0) is × (j < 4) × (js ≡ before ++ (j ∷ [])) × Reads k (getD is j 0) ss before i

@@ -6,7 +6,7 @@ ghost use lib.Ieee.{binary64};
 ghost use lib.ListN.{length, getD, take};
 ghost use Rattle.multicubic.specs.Grid.{anyOver};
 ghost use Rattle.reduction.specs.Value.{stridesOf, reduceOf};
-ghost use Rattle.reduction.specs.Internal.{from, added};
+ghost use Rattle.reduction.specs.Internal.{from, Along};
 use interp_math::dot4;
 
 // The strides of the first n axes, the last axis fastest.
@@ -30,7 +30,7 @@ pub fn strides(n: usize, counts: [usize; 4]) -> [usize; 4]
 // The four indices along one axis from an index on: each is the one before it plus the axis's stride.
 fn along(base: usize, stride: usize) -> [usize; 4]
     requires { ⌜ base + 3 * stride < 2 ^ 64 ⌝ }
-    ensures { λ r. ⌜ ((j : ℕ) → j < 4 → getD r j 0 ≡ added stride j base) ⌝ }
+    ensures { λ r. ⌜ Along base stride r ⌝ }
 {
     let i1 = base + stride;
     let i2 = i1 + stride;

@@ -1,17 +1,17 @@
 // f32: written by tools/width from crates/reduction/src/lib.rt; what has no float is called there.
 // Strides, and the reduction of a block by four-term sums, over 1 to 4 axes: what the value and each component end in.
 ghost use mathlib.Core.Path.{_≡_};
-ghost use Prim.Native.Nat.{ℕ, _+_, _*_, _^_, _<_};
+ghost use Prim.Native.Nat.{_+_, _*_, _^_, _<_};
 ghost use lib.Ieee.{binary32};
 ghost use lib.ListN.{length, getD, take};
 ghost use Rattle.reduction.specs.Value.{reduceOf};
-ghost use Rattle.reduction.specs.Internal.{from, added};
+ghost use Rattle.reduction.specs.Internal.{from, Along};
 use interp_math_f32::dot4;
 
 // The four indices along one axis from an index on: each is the one before it plus the axis's stride.
 fn along(base: usize, stride: usize) -> [usize; 4]
     requires { ⌜ base + 3 * stride < 2 ^ 64 ⌝ }
-    ensures { λ r. ⌜ ((j : ℕ) → j < 4 → getD r j 0 ≡ added stride j base) ⌝ }
+    ensures { λ r. ⌜ Along base stride r ⌝ }
 {
     let i1 = base + stride;
     let i2 = i1 + stride;

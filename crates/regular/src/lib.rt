@@ -77,9 +77,10 @@ fn locate(axis_count: usize, axes: [Axis; 4], mode: EdgeMode, x: [f64; 4]) -> Pl
     let mut i: usize = 0;
     while i < axis_count {
         let given = x[i];
-        let replaced = replaced_at(axes[i], given, mode);
-        let used = hold(axes[i], given, replaced);
-        let loc = regular_axis::get_loc(axes[i], used);
+        let own = axes[i];
+        let replaced = replaced_at(own, given, mode);
+        let used = hold(own, given, replaced);
+        let loc = regular_axis::get_loc(own, used);
         let place = match loc {
             Loc::At(place) => place,
             Loc::NotANumber => return unplaced(place_outcome(0, i, loc)),
@@ -239,7 +240,7 @@ pub fn get_loc(
     MarkedPlaces { answer, marks }
 }
 
-// The value at a query, or the refusal.
+// The value at a query, or the refusal. Of a value that is a NaN the contract says that it is one, and leaves its payload open.
 pub fn interp_one(
     axis_count: usize,
     axes: [Axis; 4],
@@ -257,7 +258,7 @@ pub fn interp_one(
     MarkedAnswer { answer, marks }
 }
 
-// The gradient at a query, or the refusal.
+// The gradient at a query, or the refusal. Of a component that is a NaN the contract says that it is one, and leaves its payload open.
 pub fn interp_one_grad(
     axis_count: usize,
     axes: [Axis; 4],

@@ -6,10 +6,12 @@ use Prim.Native.Nat.{ℕ, zero, suc, _<_}
 use native.Mathlib.Omega.{arith}
 use lib.IntN.{pos}
 use lib.ListN.{getD}
-use lib.Dec.{eqb, lit<}
+use lib.Dec.{T, eqb, lit<}
 use lib.Ieee.{Float, nan, fin, Format, binary32, binary64, add, sub, mul, div, neg, ofBits}
+use lib.Ieee.Scale.{finite}
 use borrow.Author.Tests.{eq-eqb, ne-eqb}
 use Rattle.ieee.specs.Numbers.{one}
+use Rattle.ieee.proofs.Cancel.{sub-self-nil}
 use Rattle.interp_math.specs.Basis.{hermiteBasis}
 use Rattle.multicubic.specs.declared.Saturation.the-variants.{None, InsideLow, InsideHigh, OutsideHigh}
 use Rattle.multicubic.proofs.Nodes.{OneAt}
@@ -64,3 +66,8 @@ row-top binary32 true = one-at 3 (λ k. eqb k 2) (lit< tt)
 row-top binary32 false = one-at 3 (λ k. false) (lit< tt)
 row-top binary64 true = one-at 3 (λ k. eqb k 2) (lit< tt)
 row-top binary64 false = one-at 3 (λ k. false) (lit< tt)
+
+-- clause 9.4, must-fail/nearest_point.edit: by t - t in place of t every query of class None has the row of the stored point at or below it, and a node
+-- its own. The rows at the nodes do not tell that reader from this one; the contracts do
+pub row-below : (f : Format) (straight : Bool) (t : Float) → T (finite t) → OneAt 1 (weightsOf f None straight (sub f t t))
+row-below f straight t h = rw (sub-self-nil f t h) (row-mid f straight false)

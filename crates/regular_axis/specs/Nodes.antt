@@ -6,7 +6,7 @@ use lib.IntN.{ℤ}
 use lib.Ieee.{Float, fin, up, down}
 use lib.Ieee.Exact.{HasValue}
 
--- the step is a power of two from 2^-20 to 2^20; the start is a whole number of steps, at most 2^20 of them from zero
+-- the step is 2^e, e from -20 to 20, and the start k steps, k a whole number from -2^20 to 2^20
 pub record Premises (start step : Float) : Type 0 where
   pub power : ℤ
   pub step-is : step ≡ fin false 1 power

@@ -16,7 +16,7 @@ use Rattle.interp_math.specs.Basis.{scaled}
 abbrev pub node : Format → Float → Float → ℕ → Float
 node f start step i = add f start (mul f step (ofInt f (pos i)))
 
--- t is relative to the block's point 1, at origin + 1
+-- t: how many steps the query lies past point 1 of its block, the node of origin + 1
 abbrev pub tOf : Format → Float → Float → ℕ → Float → Float
 tOf f start step origin x = div f (sub f x (node f start step (suc origin))) step
 
@@ -32,7 +32,7 @@ interior f h =
 abbrev pub oneAndHalf : Format → Float
 oneAndHalf f = add f one (div f one (two f))
 
--- An end's weights: of the end point, the one beside it, and the next; the end slope is twice the secant less the neighbouring slope.
+-- An end's weights: of the end point, the one beside it, and the next. The slopes at the first two of them have the secant for their mean.
 unfoldable pub cubicEnd : Format → List Float → List Float
 cubicEnd f h =
     let h00 = getD h 0 nan in
@@ -63,7 +63,7 @@ abbrev pub endSlopeOf : Format → Float → Bool → List Float
 endSlopeOf f t true = straightEndSlope f
 endSlopeOf f t false = cubicEnd f (hermiteBasisDerivative f t)
 
--- At the low end t is negated, at the high end it is less 1. Only the Outside classes follow the straight line.
+-- From an end's own point outward t grows: -t at the low end, t - 1 at the high. The straight line is for the Outside classes alone.
 abbrev pub weightsOf : Format → Saturation → Bool → Float → List Float
 weightsOf f None straight t = interior f (hermiteBasis f t)
 weightsOf f InsideLow straight t = atLow (endOf f (neg t) false)

@@ -78,9 +78,10 @@ fn locate(axis_count: usize, axes: [AxisF32; 4], mode: EdgeMode, x: [f32; 4]) ->
     let mut i: usize = 0;
     while i < axis_count {
         let given = x[i];
-        let replaced = replaced_at(axes[i], given, mode);
-        let used = hold(axes[i], given, replaced);
-        let loc = regular_axis_f32::get_loc(axes[i], used);
+        let own = axes[i];
+        let replaced = replaced_at(own, given, mode);
+        let used = hold(own, given, replaced);
+        let loc = regular_axis_f32::get_loc(own, used);
         let place = match loc {
             Loc::At(place) => place,
             Loc::NotANumber => return unplaced(place_outcome(0, i, loc)),
@@ -240,7 +241,7 @@ pub fn get_loc(
     MarkedPlaces { answer, marks }
 }
 
-// The value at a query, or the refusal.
+// The value at a query, or the refusal. Of a value that is a NaN the contract says that it is one, and leaves its payload open.
 pub fn interp_one(
     axis_count: usize,
     axes: [AxisF32; 4],
@@ -258,7 +259,7 @@ pub fn interp_one(
     MarkedAnswerF32 { answer, marks }
 }
 
-// The gradient at a query, or the refusal.
+// The gradient at a query, or the refusal. Of a component that is a NaN the contract says that it is one, and leaves its payload open.
 pub fn interp_one_grad(
     axis_count: usize,
     axes: [AxisF32; 4],

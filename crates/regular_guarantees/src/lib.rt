@@ -9,6 +9,7 @@ ghost use Rattle.grid.specs.Batch.{interpOutcome, interpBuffer};
 ghost use Rattle.regular_query.specs.Grid.{gridOf, AllPremises};
 ghost use Rattle.guarantees.specs.Marked.{UnmarkedAtNode};
 ghost use Rattle.guarantees.specs.Statements.{AnswersOf, BuffersOf, HeldEdge, HeldInBatch, OwedAlone, OwedInBatch};
+use guarantees::TwoOutcomes;
 use guarantees::TwoTables;
 use multicubic::Axis;
 use multicubic::EdgeMode;
@@ -60,14 +61,16 @@ pub fn in_batch(
     other_mode: EdgeMode,
     other_out: &mut [f64],
     other_grad: &mut [f64],
-) -> Outcome
+) -> TwoOutcomes
     ensures { λ r. ⌜ OwedInBatch binary64 (AllPremises (take «axis_count» axes))
         (gridOf binary64 «axis_count» axes (now (vals .entry)) mode)
         (gridOf binary64 «axis_count» axes (now («other_vals» .entry)) «other_mode»)
-        (now (queries .entry)) r (now (out .entry)) (now (out .exit)) (now («other_out» .entry)) (now («other_out» .exit))
+        (now (queries .entry)) (r .outcome) (r .«other_outcome») (now (out .entry)) (now (out .exit)) (now («other_out» .entry)) (now («other_out» .exit))
         (now (grad .entry)) (now (grad .exit)) (now («other_grad» .entry)) (now («other_grad» .exit)) ⌝ }
-    ensures { λ r. ⌜ r ≡ interpOutcome binary64 (gridOf binary64 «axis_count» axes (now (vals .entry)) mode)
+    ensures { λ r. ⌜ r .outcome ≡ interpOutcome binary64 (gridOf binary64 «axis_count» axes (now (vals .entry)) mode)
         (now (queries .entry)) (now (out .entry)) ⌝ }
+    ensures { λ r. ⌜ r .«other_outcome» ≡ interpOutcome binary64 (gridOf binary64 «axis_count» axes (now («other_vals» .entry)) «other_mode»)
+        (now (queries .entry)) (now («other_out» .entry)) ⌝ }
     ensures { λ r. ⌜ BuffersOf binary64 (gridOf binary64 «axis_count» axes (now (vals .entry)) mode)
         (now (queries .entry)) (now (out .entry)) (now (out .exit)) (now (grad .entry)) (now (grad .exit)) ⌝ }
     ensures { λ r. ⌜ BuffersOf binary64 (gridOf binary64 «axis_count» axes (now («other_vals» .entry)) «other_mode»)
@@ -75,7 +78,14 @@ pub fn in_batch(
 {
     let outcome = regular_batch::interp(axis_count, axes, vals, mode, queries, out);
     regular_batch::interp_grad(axis_count, axes, vals, mode, queries, grad);
-    regular_batch::interp(axis_count, axes, other_vals, other_mode, queries, other_out);
+    let other_outcome = regular_batch::interp(
+        axis_count,
+        axes,
+        other_vals,
+        other_mode,
+        queries,
+        other_out,
+    );
     regular_batch::interp_grad(
         axis_count,
         axes,
@@ -84,7 +94,10 @@ pub fn in_batch(
         queries,
         other_grad,
     );
-    outcome
+    TwoOutcomes {
+        outcome,
+        other_outcome,
+    }
 }
 
 // Clause 8.6: a query past the ends, or at nodes, of a grid that holds its edges.

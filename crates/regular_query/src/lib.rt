@@ -133,16 +133,17 @@ pub fn answer_at(
     let mut axis: usize = 0;
     while axis < axis_count {
         let given = queries[at];
-        let replaced = replaced_at(axes[axis], given, mode);
-        let used = hold(axes[axis], given, replaced);
-        let loc = get_loc(axes[axis], used);
+        let own = axes[axis];
+        let replaced = replaced_at(own, given, mode);
+        let used = hold(own, given, replaced);
+        let loc = get_loc(own, used);
         let place = match loc {
             Loc::At(place) => place,
             Loc::NotANumber => return answered(place_outcome(i, axis, loc), 0.0),
             Loc::Unplaceable => return answered(place_outcome(i, axis, loc), 0.0),
         };
         let derivative = is_component(quantity, axis);
-        rows[axis] = row_at(axes[axis], used, place, straight, derivative, replaced);
+        rows[axis] = row_at(own, used, place, straight, derivative, replaced);
         let o = place.origin;
         let s = strides[axis];
         base = base + o * s;

@@ -77,48 +77,36 @@ loop-holds c =
 add-end : tie.Need-add-end Inv-loop μ-loop
 add-end c = omega (arith, ends (c .before) (c .loop-test .taken), c .before .before .before .before .good)
 
-mul-replaced-at : tie.Need-mul-replaced-at Inv-loop μ-loop
-mul-replaced-at c = omega (arith, ends (c .before) (c .loop-test .taken), c .before .before .before .before .good)
+mul-entries : tie.Need-mul-entries Inv-loop μ-loop
+mul-entries c = omega (arith, ends (c .before) (c .loop-test .taken), c .before .before .before .before .good)
 
-part-replaced-at-end : tie.Need-part-replaced-at-end Inv-loop μ-loop
-part-replaced-at-end c = ends (c .before) (c .loop-test .taken)
+part-entries-end : tie.Need-part-entries-end Inv-loop μ-loop
+part-entries-end c = ends (c .before) (c .loop-test .taken)
 
 replaced-at-requires : tie.Need-replaced-at-requires Inv-loop μ-loop
 replaced-at-requires c κs = long (c .before .before) (c .before .loop-test .taken)
 
-mul-hold : tie.Need-mul-hold Inv-loop μ-loop
-mul-hold c = omega (arith, ends (c .before .before .before) (c .before .before .loop-test .taken), c .before .before .before .before .before .before .good)
-
-part-hold-end : tie.Need-part-hold-end Inv-loop μ-loop
-part-hold-end c = ends (c .before .before .before) (c .before .before .loop-test .taken)
-
 hold-requires : tie.Need-hold-requires Inv-loop μ-loop
-hold-requires c κs = long (c .before .before .before .before) (c .before .before .before .loop-test .taken)
-
-mul-get-loc : tie.Need-mul-get-loc Inv-loop μ-loop
-mul-get-loc c = omega (arith, ends (c .before .before .before .before .before) (c .before .before .before .before .loop-test .taken), c .before .before .before .before .before .before .before .before .good)
-
-part-get-loc-end : tie.Need-part-get-loc-end Inv-loop μ-loop
-part-get-loc-end c = ends (c .before .before .before .before .before) (c .before .before .before .before .loop-test .taken)
+hold-requires c κs = long (c .before .before .before) (c .before .before .loop-test .taken)
 
 get-loc-requires : tie.Need-get-loc-requires Inv-loop μ-loop
 get-loc-requires c κs =
-    let l = c .before .before .before .before .before .before in
-    let h = c .before .before .before .before .before .loop-test .taken in
+    let l = c .before .before .before .before in
+    let h = c .before .before .before .loop-test .taken in
     (long l h, sound-at binary32 (l .before .before .before .args .mode) (l .loop .inv .2) (l .loop .inv .5) (l .loop .i) h (l .loop .start) (l .loop .inv .6))
 
 -- the place on the axis in hand has been asked for: it is what the grid's axis has, and where it is none the query has no places
 module _ (c : tie.After-get-loc Inv-loop μ-loop) where
   abbrev head : tie.At-loop Inv-loop μ-loop
-  head = c .before .before .before .before .before .before .before
+  head = c .before .before .before .before .before
 
   abbrev left : head .loop .i < head .before .before .before .args .axis-count
-  left = c .before .before .before .before .before .before .loop-test .taken
+  left = c .before .before .before .before .loop-test .taken
 
   located : c .get-loc .result ≡ getD (gs head) (head .loop .i) noGridAxis .loc (at (head .before .before .before .args .t5) (head .loop .i))
   located =
       loc-is head left _ (own-loc (head .before .before .before .args .mode) (line head left) (given head) _ _
-      (c .before .before .before .before .replaced-at .ensures) (c .before .before .hold .ensures) _ (c .get-loc .ensures .0))
+      (c .before .before .replaced-at .ensures) (c .before .hold .ensures) _ (c .get-loc .ensures .0))
 
   refused : Unplaced (c .get-loc .result) → (r : PlaceAnswer) → r .outcome ≡ placeOutcome 0 (head .loop .i) (c .get-loc .result) → r .places ≡ fourNowhere
       → Located 0 (gs head) (at (head .before .before .before .args .t5)) r
@@ -168,20 +156,12 @@ locate-spec =
     add-end
     (λ c. omega arith)
     (λ c. omega arith)
-    mul-replaced-at
+    mul-entries
     (λ c. omega arith)
     (λ c. omega arith)
-    part-replaced-at-end
+    part-entries-end
     replaced-at-requires
-    mul-hold
-    (λ c. omega arith)
-    (λ c. omega arith)
-    part-hold-end
     hold-requires
-    mul-get-loc
-    (λ c. omega arith)
-    (λ c. omega arith)
-    part-get-loc-end
     get-loc-requires
     (λ c. search needs)
     (λ c. search needs)

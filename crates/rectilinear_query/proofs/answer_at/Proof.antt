@@ -4,7 +4,7 @@ use mathlib.Core.Bool.{Bool}
 use mathlib.Core.List.{List}
 use Prim.Native.Nat.{ℕ, _+_, _-_, _*_, _≤_, _<_}
 use native.Mathlib.Omega.{arith}
-use lib.ListN.{length, getD, take, length-map}
+use lib.ListN.{length, getD, take}
 use lib.Ieee.{Float, nan, binary64, ofBits}
 use denote.Ref.{now}
 use Rattle.ieee.specs.Numbers.{zero as nought}
@@ -15,15 +15,13 @@ use Rattle.multicubic.specs.Grid.{sum}
 use Rattle.multicubic.specs.Place.{straightOf, Placed}
 use Rattle.multicubic.proofs.Numbers.{Unplaced}
 use Rattle.reduction.specs.Value.{stridesOf, offset, shifted}
-use Rattle.reduction.specs.Internal.{indexAt}
-use Rattle.reduction.proofs.Reduction.{read-at}
+use Rattle.reduction.specs.Internal.{Reads}
 use Rattle.grid.specs.Query.{GridAxis, countsOf, Found, places, originsOf}
-use Rattle.grid.specs.Batch.{queryAt, foundAt}
+use Rattle.grid.specs.Batch.{foundAt}
 use Rattle.grid.specs.Internal.{rowAt, answerTo, noAxis as noGridAxis}
 use Rattle.grid.proofs.Edges.{own-loc, own-row}
 use Rattle.grid.proofs.Fit.{Fit}
-use Rattle.grid.proofs.Locating.{so-far-all}
-use Rattle.grid.proofs.Answering.{Turn, turn-none, turn-room, turn-refused, turn-small, turn-next, turn-reach, turn-value}
+use Rattle.grid.proofs.Answering.{Turn, turn-none, turn-room, turn-refused, turn-small, turn-next, turn-read, turn-reach, turn-value}
 use Rattle.rectilinear_query.specs.Grid.{gridAxis, axisIn, axesIn}
 use Rattle.rectilinear_query.specs.Internal.{Ready}
 use Rattle.rectilinear_query.proofs.Locating.{taken-of, fit, spaced-by, sum-next, ends-within, part, long-at, sound-at, axis-is, room-on}
@@ -97,48 +95,36 @@ shared-slice-read-given c = omega (arith, turn-room (fits (c .before .before)) (
 add-end : tie.Need-add-end Inv-loop μ-loop
 add-end c = omega (arith, ends (c .before .before) (c .before .loop-test .taken), c .before .before .before .before .before .before .before .good)
 
-mul-replaced-at : tie.Need-mul-replaced-at Inv-loop μ-loop
-mul-replaced-at c = omega (arith, ends (c .before .before) (c .before .loop-test .taken), c .before .before .before .before .before .before .before .good)
+mul-entries : tie.Need-mul-entries Inv-loop μ-loop
+mul-entries c = omega (arith, ends (c .before .before) (c .before .loop-test .taken), c .before .before .before .before .before .before .before .good)
 
-part-replaced-at-end : tie.Need-part-replaced-at-end Inv-loop μ-loop
-part-replaced-at-end c = ends (c .before .before) (c .before .loop-test .taken)
+part-entries-end : tie.Need-part-entries-end Inv-loop μ-loop
+part-entries-end c = ends (c .before .before) (c .before .loop-test .taken)
 
 replaced-at-requires : tie.Need-replaced-at-requires Inv-loop μ-loop
 replaced-at-requires c κs = long (c .before .before .before) (c .before .before .loop-test .taken)
 
-mul-hold : tie.Need-mul-hold Inv-loop μ-loop
-mul-hold c = omega (arith, ends (c .before .before .before .before) (c .before .before .before .loop-test .taken), c .before .before .before .before .before .before .before .before .before .good)
-
-part-hold-end : tie.Need-part-hold-end Inv-loop μ-loop
-part-hold-end c = ends (c .before .before .before .before) (c .before .before .before .loop-test .taken)
-
 hold-requires : tie.Need-hold-requires Inv-loop μ-loop
-hold-requires c κs = long (c .before .before .before .before .before) (c .before .before .before .before .loop-test .taken)
-
-mul-get-loc : tie.Need-mul-get-loc Inv-loop μ-loop
-mul-get-loc c = omega (arith, ends (c .before .before .before .before .before .before) (c .before .before .before .before .before .loop-test .taken), c .before .before .before .before .before .before .before .before .before .before .before .good)
-
-part-get-loc-end : tie.Need-part-get-loc-end Inv-loop μ-loop
-part-get-loc-end c = ends (c .before .before .before .before .before .before) (c .before .before .before .before .before .loop-test .taken)
+hold-requires c κs = long (c .before .before .before .before) (c .before .before .before .loop-test .taken)
 
 get-loc-requires : tie.Need-get-loc-requires Inv-loop μ-loop
 get-loc-requires c κs =
-    let l = c .before .before .before .before .before .before .before in
-    let h = c .before .before .before .before .before .before .loop-test .taken in
+    let l = c .before .before .before .before .before in
+    let h = c .before .before .before .before .loop-test .taken in
     (long l h, sound-at binary64 (l .before .before .before .before .before .args .mode) (l .loop .inv .2) (taken-of (l .loop .inv .4)) (l .loop .axis) h (l .loop .start) (l .loop .inv .3))
 
 -- the place on the axis in hand has been asked for: it is what the grid's axis has, and where it is none, that is the query's answer
 module _ (c : tie.After-get-loc Inv-loop μ-loop) where
   abbrev head : tie.At-loop Inv-loop μ-loop
-  head = c .before .before .before .before .before .before .before .before
+  head = c .before .before .before .before .before .before
 
   abbrev left : head .loop .axis < head .before .before .before .before .before .args .axis-count
-  left = c .before .before .before .before .before .before .before .loop-test .taken
+  left = c .before .before .before .before .before .loop-test .taken
 
   located : c .get-loc .result ≡ own head left .loc (given head)
   located =
       own-loc (head .before .before .before .before .before .args .mode) (line head left) (given head) _ _
-      (c .before .before .before .before .replaced-at .ensures) (c .before .before .hold .ensures) _ (c .get-loc .ensures .0)
+      (c .before .before .replaced-at .ensures) (c .before .hold .ensures) _ (c .get-loc .ensures .0)
 
   refused : Unplaced (c .get-loc .result) → (o : Outcome) → o ≡ placeOutcome (head .before .before .before .before .before .args .i) (head .loop .axis) (c .get-loc .result)
       → answered o nought ≡ answerTo binary64 (gs head) (now (head .before .before .before .before .before .args .vals)) (head .before .before .before .before .before .args .quantity)
@@ -159,31 +145,23 @@ returns-2 c =
     c .answered2 .ensures
     ∙ refused (c .before .before .before .before) (subst Unplaced (sym (c .before .before .enum-told2 .given .1)) tt) _ (c .before .place-outcome2 .ensures)
 
-mul-row-at : tie.Need-mul-row-at Inv-loop μ-loop
-mul-row-at c =
-    let t = c .before .before .before .before in
-    omega (arith, ends (head t) (left t), head t .before .before .before .before .before .good)
-
-part-row-at-end : tie.Need-part-row-at-end Inv-loop μ-loop
-part-row-at-end c = ends (head (c .before .before .before .before)) (left (c .before .before .before .before))
-
 row-at-requires : tie.Need-row-at-requires Inv-loop μ-loop
 row-at-requires c κs =
-    let t = c .before .before .before .before .before in
+    let t = c .before .before .before .before in
     let l = head t in
     room-on binary64 (l .before .before .before .before .before .args .mode) (l .loop .inv .2) (taken-of (l .loop .inv .4)) (l .loop .axis) (left t) (l .loop .start) (l .loop .inv .3)
-    (straightOf (l .before .before .before .before .before .args .mode)) _ _ (sym (c .before .before .before .loc .given .1) ∙ t .get-loc .ensures .0)
+    (straightOf (l .before .before .before .before .before .args .mode)) _ _ (sym (c .before .before .loc .given .1) ∙ t .get-loc .ensures .0)
 
 -- the axis in hand has placed the query
 module _ (c : tie.After-row-at Inv-loop μ-loop) where
   abbrev turned : tie.After-get-loc Inv-loop μ-loop
-  turned = c .before .before .before .before .before .before
+  turned = c .before .before .before .before .before
 
-  found : At (c .before .before .before .before .loc .given .0 .0) ≡ own (head turned) (left turned) .loc (given (head turned))
-  found = sym (c .before .before .before .before .loc .given .1) ∙ located turned
+  found : At (c .before .before .before .loc .given .0 .0) ≡ own (head turned) (left turned) .loc (given (head turned))
+  found = sym (c .before .before .before .loc .given .1) ∙ located turned
 
   -- the index of the block's first value stays small
-  small : head turned .loop .base + c .before .before .before .before .loc .given .0 .0 .origin
+  small : head turned .loop .base + c .before .before .before .loc .given .0 .0 .origin
       * getD (head turned .before .before .before .before .before .args .t6) (head turned .loop .axis) 0 < 1048576
   small = turn-small (fits (head turned)) (head turned .loop .inv .6) (left turned) (own (head turned) (left turned)) (same (head turned) (left turned)) _ found
 
@@ -198,9 +176,9 @@ loop-again c =
     let l = head t in
     let h = left t in
     let row = own-row (l .before .before .before .before .before .args .mode) (line l h) (given l) _ _
-    (t .before .before .before .before .replaced-at .ensures) (t .before .before .hold .ensures) _ (l .loop .inv .5) _
-    (c .before .before .before .before .loc .given .0 .0) (c .before .before .is-component .result) (c .row-at .ensures) in
-    let put = ap (rowAt (own l h) (given l) (c .before .before .before .before .loc .given .0 .0)) (c .before .before .is-component .ensures) in
+    (t .before .before .replaced-at .ensures) (t .before .hold .ensures) _ (l .loop .inv .5) _
+    (c .before .before .before .loc .given .0 .0) (c .before .is-component .result) (c .row-at .ensures) in
+    let put = ap (rowAt (own l h) (given l) (c .before .before .before .loc .given .0 .0)) (c .before .is-component .ensures) in
     let next = turn-next (fits l) (l .loop .inv .6) h (own l h) (same l h) _ (found c) _ (row ∙ put) in (
       omega (arith, h),
       l .loop .inv .1,
@@ -211,20 +189,10 @@ loop-again c =
       next,
     )
 
--- clause 5.5: no axis is left, and ps are the query's places. The value that the reduction reads for js stands at the sum of (origin + j) × stride
-module _ (c : tie.At-loop Inv-loop μ-loop) (h : c .before .before .before .before .before .args .axis-count ≤ c .loop .axis) where
-  read-here : (ps : List Placed) → asked c ≡ places ps → (js : List ℕ) → length js ≡ c .before .before .before .before .before .args .axis-count
-      → indexAt (c .loop .base) (c .before .before .before .before .before .args .t6) js ≡ offset (shifted (originsOf ps) js) (stridesOf (countsOf (gs c)))
-  read-here ps found js n =
-      let a = c .before .before .before .before .before .args in
-      let turn = c .loop .inv .6 in
-      let few = c .loop .inv .1 in
-      let done : c .loop .axis ≡ a .axis-count = omega (arith, c .loop .inv .0) in
-      let all = so-far-all (gs c) (queryAt (a .count) (now (a .queries)) (a .i)) (c .loop .axis) (turn .pass .so-far) (done ∙ sym (fits c .counted)) in
-      let same : turn .pass .so-far .ps ≡ ps = cc in
-      let counted = length-map ps (λ (p : Placed). p .place .origin) ∙ ap length (sym same) ∙ turn .pass .so-far .many ∙ done in
-      let base = turn .pass .base-is ∙ ap (λ (l : List Placed). offset (originsOf l) (a .t6)) same in
-      read-at (a .axis-count) (c .loop .base) (originsOf ps) js (a .t6) counted n (omega (arith, turn .four)) base ∙ ap (offset (shifted (originsOf ps) js)) (turn .spaced)
+-- clause 5.5, at the base that the reduction gets: the way of its reads leads to the sum of (origin + j) × stride
+read-here : (c : tie.At-loop Inv-loop μ-loop) → c .before .before .before .before .before .args .axis-count ≤ c .loop .axis → (ps : List Placed) → asked c ≡ places ps → (js : List ℕ) (read : ℕ)
+    → Reads (c .before .before .before .before .before .args .axis-count) (c .loop .base) (c .before .before .before .before .before .args .t6) js read → read ≡ offset (shifted (originsOf ps) js) (stridesOf (countsOf (gs c)))
+read-here c h = turn-read (fits c) (c .loop .inv .6) h
 
 reduce3-requires : tie.Need-reduce3-requires Inv-loop μ-loop
 reduce3-requires c κs = turn-reach (fits (c .before .before)) (c .before .before .loop .inv .6) (c .before .loop-test .left) .2 (c .if1 .taken)
@@ -271,20 +239,12 @@ answer-at-spec =
     (λ c. omega arith)
     (λ c. omega arith)
     add-end
-    mul-replaced-at
+    mul-entries
     (λ c. omega arith)
     (λ c. omega arith)
-    part-replaced-at-end
+    part-entries-end
     replaced-at-requires
-    mul-hold
-    (λ c. omega arith)
-    (λ c. omega arith)
-    part-hold-end
     hold-requires
-    mul-get-loc
-    (λ c. omega arith)
-    (λ c. omega arith)
-    part-get-loc-end
     get-loc-requires
     (λ c. search needs)
     (λ c. search needs)
@@ -296,10 +256,6 @@ answer-at-spec =
     (λ c κs. search needs)
     returns-2
     (λ c κs. search needs)
-    mul-row-at
-    (λ c. omega arith)
-    (λ c. omega arith)
-    part-row-at-end
     row-at-requires
     (λ c. omega arith)
     (λ c. omega arith)

@@ -1,32 +1,35 @@
 -- `reduce3`: one step of the reduction, over axis 2.
 use Prim.Native.Nat.{ℕ, _+_, _*_, _<_}
+use mathlib.Core.Path.{refl}
+use mathlib.Core.List.{List, [], _∷_, _++_}
 use lib.Dec.{lit<}
 use lib.Ieee.{binary32}
 use lib.ListN.{length, getD}
 use native.Mathlib.Omega.{arith}
 use denote.Ref.{now}
-use Rattle.reduction.proofs.Reduction.{Carried, carry, step-is}
+use Rattle.reduction.specs.Internal.{Reads}
+use Rattle.reduction.proofs.Reduction.{along-room, step-is}
 use borrow.Author.Needs.{needs}
 use Rattle.reduction_f32.proofs.reduce3.Statement.{statement}
 use Rattle.reduction_f32.proofs.reduce3.Tie as tie
 
--- the index that is handed on for j: what is read from there lies within the values
+-- the index that is handed on for j: what is read from there lies within the values, and is read from the base for j too
 module _ (c : tie.After-along) (j : ℕ) (l : j < 4) where
   abbrev s : tie.Start
   s = c .before .before
 
-  carried : Carried 2 (s .args .base) (s .args .t3) j (getD (c .along .result) j 0) × (getD (c .along .result) j 0 + 3 * getD (s .args .t3) 0 0 + 3 * getD (s .args .t3) 1 0 < length (now (s .args .vals)))
-  carried =
-      let t = s .good .1 .1 .0 .1 .0 .1 in
-      let h = carry 2 (s .args .base) j (getD (c .along .result) j 0) (3 * getD (s .args .t3) 0 0 + 3 * getD (s .args .t3) 1 0) (length (now (s .args .vals))) (s .args .t3) (omega arith) l (c .along .ensures j l) (omega (arith, s .pre)) in
-      (h .0, omega (arith, h .1))
+  room : getD (c .along .result) j 0 + 3 * getD (s .args .t3) 0 0 + 3 * getD (s .args .t3) 1 0 < length (now (s .args .vals))
+  room = let m = along-room (s .args .base) (getD (s .args .t3) 2 0) (3 * getD (s .args .t3) 0 0 + 3 * getD (s .args .t3) 1 0) (length (now (s .args .vals))) j (c .along .result) (c .along .ensures) l (omega (arith, s .pre)) in omega arith
+
+  read : (js : List ℕ) (i : ℕ) → Reads 2 (getD (c .along .result) j 0) (s .args .t3) js i → Reads 3 (s .args .base) (s .args .t3) (js ++ (j ∷ [])) i
+  read js i r = (c .along .result, j, js, c .along .ensures, l, refl, r)
 
 returns : tie.Need-returns
 returns c =
     let a = c .before .before .before .before .before .before .before .before .args in
     let w = c .before .before .before .before .before .before .before .before .good .1 .0 .1 .0 .1 in
     let t = c .before .before .before .before .before .before .before .before .good .1 .1 .0 .1 .0 .1 in
-    step-is binary32 (a .vals .now) (a .t2) (a .t3) 2 (a .base) (omega arith) (omega arith) (c .before .before .before .before .before .before .along .result) (λ j l. carried (c .before .before .before .before .before .before) j l .0) _ _ _ _ _ (c .before .before .before .before .before .reduce2 .ensures) (c .before .before .before .before .reduce22 .ensures) (c .before .before .before .reduce23 .ensures) (c .before .before .reduce24 .ensures) (c .dot4 .ensures)
+    step-is binary32 (a .vals .now) (a .t2) (a .t3) 2 (a .base) (omega arith) (omega arith) (c .before .before .before .before .before .before .along .result) (c .before .before .before .before .before .before .along .ensures) _ _ _ _ _ (c .before .before .before .before .before .reduce2 .ensures) (c .before .before .before .before .reduce22 .ensures) (c .before .before .before .reduce23 .ensures) (c .before .before .reduce24 .ensures) (c .dot4 .ensures)
 
 pub reduce3-spec : {M : Type 1} → statement M
 reduce3-spec =
@@ -35,13 +38,13 @@ reduce3-spec =
     (λ c. search needs)
     (λ c κs. search needs)
     (λ c. search needs)
-    (λ c κs. carried c 0 (lit< tt) .1)
+    (λ c κs. room c 0 (lit< tt))
     (λ c. search needs)
-    (λ c κs. carried (c .before) 1 (lit< tt) .1)
+    (λ c κs. room (c .before) 1 (lit< tt))
     (λ c. search needs)
-    (λ c κs. carried (c .before .before) 2 (lit< tt) .1)
+    (λ c κs. room (c .before .before) 2 (lit< tt))
     (λ c. search needs)
-    (λ c κs. carried (c .before .before .before) 3 (lit< tt) .1)
+    (λ c κs. room (c .before .before .before) 3 (lit< tt))
     (λ c. search needs)
     (λ c κs. search needs)
     returns)

@@ -70,25 +70,25 @@ replaced-at-requires : tie.Need-replaced-at-requires Inv-loop μ-loop
 replaced-at-requires c κs = ends (c .before .before) (c .before .loop-test .taken)
 
 hold-requires : tie.Need-hold-requires Inv-loop μ-loop
-hold-requires c κs = ends (c .before .before .before .before) (c .before .before .before .loop-test .taken)
+hold-requires c κs = ends (c .before .before .before) (c .before .before .loop-test .taken)
 
 get-loc-requires : tie.Need-get-loc-requires Inv-loop μ-loop
 get-loc-requires c κs =
-    let l = c .before .before .before .before .before .before in
-    long-at binary64 (l .before .before .args .mode) (l .loop .inv .2) (l .loop .inv .5) (l .loop .i) (c .before .before .before .before .before .loop-test .taken)
+    let l = c .before .before .before .before in
+    long-at binary64 (l .before .before .args .mode) (l .loop .inv .2) (l .loop .inv .5) (l .loop .i) (c .before .before .before .loop-test .taken)
 
 -- the place on the axis in hand has been asked for: it is what the grid's axis has, and where it is none the query has no places
 module _ (c : tie.After-get-loc Inv-loop μ-loop) where
   abbrev head : tie.At-loop Inv-loop μ-loop
-  head = c .before .before .before .before .before .before .before
+  head = c .before .before .before .before .before
 
   abbrev left : head .loop .i < head .before .before .args .axis-count
-  left = c .before .before .before .before .before .before .loop-test .taken
+  left = c .before .before .before .before .loop-test .taken
 
   located : c .get-loc .result ≡ getD (gs head) (head .loop .i) noGridAxis .loc (at (head .before .before .args .t4) (head .loop .i))
   located =
       loc-is head left _ (own-loc (head .before .before .args .mode) (line head) (given head) _ _
-      (c .before .before .before .before .replaced-at .ensures) (c .before .before .hold .ensures) _ (c .get-loc .ensures .0))
+      (c .before .before .replaced-at .ensures) (c .before .hold .ensures) _ (c .get-loc .ensures .0))
 
   refused : Unplaced (c .get-loc .result) → (r : PlaceAnswer) → r .outcome ≡ placeOutcome 0 (head .loop .i) (c .get-loc .result) → r .places ≡ fourNowhere
       → Located 0 (gs head) (at (head .before .before .args .t4)) r
@@ -130,11 +130,7 @@ locate-spec =
     (λ c. omega arith)
     (λ c. omega arith)
     replaced-at-requires
-    (λ c. omega arith)
-    (λ c. omega arith)
     hold-requires
-    (λ c. omega arith)
-    (λ c. omega arith)
     get-loc-requires
     (λ c. search needs)
     (λ c. search needs)

@@ -4,7 +4,7 @@ use mathlib.Core.Bool.{Bool}
 use mathlib.Core.List.{List}
 use Prim.Native.Nat.{ℕ, _+_, _-_, _*_, _≤_, _<_}
 use native.Mathlib.Omega.{arith}
-use lib.ListN.{length, getD, length-map}
+use lib.ListN.{length, getD}
 use lib.Ieee.{Float, nan, binary64, ofBits}
 use denote.Ref.{now}
 use Rattle.ieee.specs.Numbers.{zero as nought}
@@ -14,15 +14,13 @@ use Rattle.multicubic.specs.Answers.{answered, placeOutcome}
 use Rattle.multicubic.specs.Place.{straightOf, Placed}
 use Rattle.multicubic.proofs.Numbers.{Unplaced}
 use Rattle.reduction.specs.Value.{stridesOf, offset, shifted}
-use Rattle.reduction.specs.Internal.{indexAt}
-use Rattle.reduction.proofs.Reduction.{read-at}
+use Rattle.reduction.specs.Internal.{Reads}
 use Rattle.grid.specs.Query.{GridAxis, countsOf, Found, places, originsOf}
-use Rattle.grid.specs.Batch.{queryAt, foundAt}
+use Rattle.grid.specs.Batch.{foundAt}
 use Rattle.grid.specs.Internal.{rowAt, answerTo, noAxis as noGridAxis}
 use Rattle.grid.proofs.Edges.{own-loc, own-row}
 use Rattle.grid.proofs.Fit.{Fit}
-use Rattle.grid.proofs.Locating.{so-far-all}
-use Rattle.grid.proofs.Answering.{Turn, turn-none, turn-room, turn-refused, turn-small, turn-next, turn-reach, turn-value}
+use Rattle.grid.proofs.Answering.{Turn, turn-none, turn-room, turn-refused, turn-small, turn-next, turn-read, turn-reach, turn-value}
 use Rattle.regular_query.specs.Grid.{gridAxis, axisIn, axesIn}
 use Rattle.regular_query.specs.Internal.{Ready}
 use Rattle.regular_query.proofs.Calls.{noAxis}
@@ -91,25 +89,25 @@ replaced-at-requires : tie.Need-replaced-at-requires Inv-loop μ-loop
 replaced-at-requires c κs = ends (c .before .before .before) (c .before .before .loop-test .taken)
 
 hold-requires : tie.Need-hold-requires Inv-loop μ-loop
-hold-requires c κs = ends (c .before .before .before .before .before) (c .before .before .before .before .loop-test .taken)
+hold-requires c κs = ends (c .before .before .before .before) (c .before .before .before .loop-test .taken)
 
 get-loc-requires : tie.Need-get-loc-requires Inv-loop μ-loop
 get-loc-requires c κs =
-    let l = c .before .before .before .before .before .before .before in
-    long-at binary64 (l .before .before .before .before .args .mode) (l .loop .inv .2) (taken-of (l .loop .inv .3)) (l .loop .axis) (c .before .before .before .before .before .before .loop-test .taken)
+    let l = c .before .before .before .before .before in
+    long-at binary64 (l .before .before .before .before .args .mode) (l .loop .inv .2) (taken-of (l .loop .inv .3)) (l .loop .axis) (c .before .before .before .before .loop-test .taken)
 
 -- the place on the axis in hand has been asked for: it is what the grid's axis has, and where it is none, that is the query's answer
 module _ (c : tie.After-get-loc Inv-loop μ-loop) where
   abbrev head : tie.At-loop Inv-loop μ-loop
-  head = c .before .before .before .before .before .before .before .before
+  head = c .before .before .before .before .before .before
 
   abbrev left : head .loop .axis < head .before .before .before .before .args .axis-count
-  left = c .before .before .before .before .before .before .before .loop-test .taken
+  left = c .before .before .before .before .before .loop-test .taken
 
   located : c .get-loc .result ≡ own head .loc (given head)
   located =
       own-loc (head .before .before .before .before .args .mode) (line head) (given head) _ _
-      (c .before .before .before .before .replaced-at .ensures) (c .before .before .hold .ensures) _ (c .get-loc .ensures .0)
+      (c .before .before .replaced-at .ensures) (c .before .hold .ensures) _ (c .get-loc .ensures .0)
 
   refused : Unplaced (c .get-loc .result) → (o : Outcome) → o ≡ placeOutcome (head .before .before .before .before .args .i) (head .loop .axis) (c .get-loc .result)
       → answered o nought ≡ answerTo binary64 (gs head) (now (head .before .before .before .before .args .vals)) (head .before .before .before .before .args .quantity)
@@ -132,21 +130,21 @@ returns-2 c =
 
 row-at-requires : tie.Need-row-at-requires Inv-loop μ-loop
 row-at-requires c κs =
-    let l = head (c .before .before .before .before .before) in
-    let loc = sym (c .before .before .before .loc .given .1) ∙ c .before .before .before .before .before .get-loc .ensures .0 in
+    let l = head (c .before .before .before .before) in
+    let loc = sym (c .before .before .loc .given .1) ∙ c .before .before .before .before .get-loc .ensures .0 in
     origin-below binary64 (l .before .before .before .before .args .mode) (l .loop .inv .2) (taken-of (l .loop .inv .3)) (l .loop .axis)
-    (left (c .before .before .before .before .before)) (straightOf (l .before .before .before .before .args .mode)) _ _ loc
+    (left (c .before .before .before .before)) (straightOf (l .before .before .before .before .args .mode)) _ _ loc
 
 -- the axis in hand has placed the query
 module _ (c : tie.After-row-at Inv-loop μ-loop) where
   abbrev turned : tie.After-get-loc Inv-loop μ-loop
-  turned = c .before .before .before .before .before .before
+  turned = c .before .before .before .before .before
 
-  found : At (c .before .before .before .before .loc .given .0 .0) ≡ own (head turned) .loc (given (head turned))
-  found = sym (c .before .before .before .before .loc .given .1) ∙ located turned
+  found : At (c .before .before .before .loc .given .0 .0) ≡ own (head turned) .loc (given (head turned))
+  found = sym (c .before .before .before .loc .given .1) ∙ located turned
 
   -- the index of the block's first value stays small
-  small : head turned .loop .base + c .before .before .before .before .loc .given .0 .0 .origin * getD (head turned .before .before .before .before .args .t5) (head turned .loop .axis) 0 < 1048576
+  small : head turned .loop .base + c .before .before .before .loc .given .0 .0 .origin * getD (head turned .before .before .before .before .args .t5) (head turned .loop .axis) 0 < 1048576
   small = turn-small (fits (head turned)) (head turned .loop .inv .5) (left turned) (own (head turned)) (same (head turned) (left turned)) _ found
 
 add-at : tie.Need-add-at Inv-loop μ-loop
@@ -159,26 +157,16 @@ loop-again c =
     let t = turned c in
     let l = head t in
     let row = own-row (l .before .before .before .before .args .mode) (line l) (given l) _ _
-    (t .before .before .before .before .replaced-at .ensures) (t .before .before .hold .ensures) _ (l .loop .inv .4) _
-    (c .before .before .before .before .loc .given .0 .0) (c .before .before .is-component .result) (c .row-at .ensures) in
-    let put = ap (rowAt (own l) (given l) (c .before .before .before .before .loc .given .0 .0)) (c .before .before .is-component .ensures) in
+    (t .before .before .replaced-at .ensures) (t .before .hold .ensures) _ (l .loop .inv .4) _
+    (c .before .before .before .loc .given .0 .0) (c .before .is-component .result) (c .row-at .ensures) in
+    let put = ap (rowAt (own l) (given l) (c .before .before .before .loc .given .0 .0)) (c .before .is-component .ensures) in
     let next = turn-next (fits l) (l .loop .inv .5) (left t) (own l) (same l (left t)) _ (found c) _ (row ∙ put) in
     (omega (arith, left t), l .loop .inv .1, l .loop .inv .2, l .loop .inv .3, l .loop .inv .4, next)
 
--- clause 5.5: no axis is left, and ps are the query's places. The value that the reduction reads for js stands at the sum of (origin + j) × stride
-module _ (c : tie.At-loop Inv-loop μ-loop) (h : c .before .before .before .before .args .axis-count ≤ c .loop .axis) where
-  read-here : (ps : List Placed) → asked c ≡ places ps → (js : List ℕ) → length js ≡ c .before .before .before .before .args .axis-count
-      → indexAt (c .loop .base) (c .before .before .before .before .args .t5) js ≡ offset (shifted (originsOf ps) js) (stridesOf (countsOf (gs c)))
-  read-here ps found js n =
-      let a = c .before .before .before .before .args in
-      let turn = c .loop .inv .5 in
-      let few = c .loop .inv .1 in
-      let done : c .loop .axis ≡ a .axis-count = omega (arith, c .loop .inv .0) in
-      let all = so-far-all (gs c) (queryAt (a .count) (now (a .queries)) (a .i)) (c .loop .axis) (turn .pass .so-far) (done ∙ sym (fits c .counted)) in
-      let same : turn .pass .so-far .ps ≡ ps = cc in
-      let counted = length-map ps (λ (p : Placed). p .place .origin) ∙ ap length (sym same) ∙ turn .pass .so-far .many ∙ done in
-      let base = turn .pass .base-is ∙ ap (λ (l : List Placed). offset (originsOf l) (a .t5)) same in
-      read-at (a .axis-count) (c .loop .base) (originsOf ps) js (a .t5) counted n (omega (arith, turn .four)) base ∙ ap (offset (shifted (originsOf ps) js)) (turn .spaced)
+-- clause 5.5, at the base that the reduction gets: the way of its reads leads to the sum of (origin + j) × stride
+read-here : (c : tie.At-loop Inv-loop μ-loop) → c .before .before .before .before .args .axis-count ≤ c .loop .axis → (ps : List Placed) → asked c ≡ places ps → (js : List ℕ) (read : ℕ)
+    → Reads (c .before .before .before .before .args .axis-count) (c .loop .base) (c .before .before .before .before .args .t5) js read → read ≡ offset (shifted (originsOf ps) js) (stridesOf (countsOf (gs c)))
+read-here c h = turn-read (fits c) (c .loop .inv .5) h
 
 reduce3-requires : tie.Need-reduce3-requires Inv-loop μ-loop
 reduce3-requires c κs = turn-reach (fits (c .before .before)) (c .before .before .loop .inv .5) (c .before .loop-test .left) .2 (c .if1 .taken)
@@ -225,11 +213,7 @@ answer-at-spec =
     (λ c. omega arith)
     (λ c. omega arith)
     replaced-at-requires
-    (λ c. omega arith)
-    (λ c. omega arith)
     hold-requires
-    (λ c. omega arith)
-    (λ c. omega arith)
     get-loc-requires
     (λ c. search needs)
     (λ c. search needs)
@@ -241,8 +225,6 @@ answer-at-spec =
     (λ c κs. search needs)
     returns-2
     (λ c κs. search needs)
-    (λ c. omega arith)
-    (λ c. omega arith)
     row-at-requires
     (λ c. omega arith)
     (λ c. omega arith)
