@@ -1,5 +1,7 @@
 // The calls for C and for other languages that link C: numbers and slices only, of any length. A slice is a pointer and a length. Each gives the
 // number of clause 2.2, and writes query and axis to `refusal`, but for the version (clause 11.5).
+#![tactic(auto)]
+
 ghost use Rattle.std.specs.Prelude.{◌≡◌};
 ghost use Rattle.std.specs.Float.{binary64};
 ghost use Rattle.multicubic.specs.declared.EdgeMode.{EdgeMode};

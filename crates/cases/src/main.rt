@@ -1,5 +1,7 @@
 // Runs the cases of clause 9.2, each refusal with its place, and what is easily missed.
 // One line for each case, and how many agree.
+#![tactic(auto)]
+
 use cases_calls::{
     Score, answer_of, answered, cubic, held, kept, not_placed, rectilinear,
     rectilinear_refused_order, refused_batch, regular, regular_from, told, walk, with_buffers,

@@ -1,4 +1,6 @@
 // What the program `cases` makes a case of: grids, and the calls of a case with their comparison and its line.
+#![tactic(auto)]
+
 ghost use Rattle.std.specs.Prelude.{◌≡◌, length};
 
 use harness_batches::{Walk, marked_words, run_batches};
@@ -10,7 +12,7 @@ use harness_words::{MARK, Tally, clear, same};
 use multicubic::{Axis, EdgeMode, MarkedAnswer, Marks};
 
 // How many cases there were, and how many of them agree.
-#[derive(Drop)]
+#[derive(Clone, Copy)]
 pub struct Score {
     pub agree: u64,
     pub all: u64,

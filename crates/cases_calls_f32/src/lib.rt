@@ -1,5 +1,7 @@
 // f32: written by tools/width from crates/cases_calls/src/lib.rt; what has no float is called there.
 // What the program `cases` makes a case of: grids, and the calls of a case with their comparison and its line.
+#![tactic(auto)]
+
 ghost use Rattle.std.specs.Prelude.{◌≡◌, length};
 
 use cases_calls::{Score, answer_of, same_marks, told, walk};

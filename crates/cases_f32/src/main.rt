@@ -1,6 +1,8 @@
 // f32: written by tools/width from crates/cases/src/main.rt; what has no float is called there.
 // Runs the cases of clause 9.2, each refusal with its place, and what is easily missed.
 // One line for each case, and how many agree.
+#![tactic(auto)]
+
 use cases_calls::{Score, answer_of, told, walk};
 use cases_calls_f32::{
     answered, cubic, held, kept, not_placed, rectilinear, refused_batch, regular, regular_from,

@@ -1,4 +1,6 @@
 // The cases of clause 3.8: the marks of single answers, by each of the four calls.
+#![tactic(auto)]
+
 use cases_calls::{
     Score, cubic, held, rectilinear, regular, regular_from, same_marks, told, zeros,
 };

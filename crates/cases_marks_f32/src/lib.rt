@@ -1,5 +1,7 @@
 // f32: written by tools/width from crates/cases_marks/src/lib.rt; what has no float is called there.
 // The cases of clause 3.8: the marks of single answers, by each of the four calls.
+#![tactic(auto)]
+
 use cases_calls::{Score, same_marks, told};
 use cases_calls_f32::{cubic, held, rectilinear, regular, regular_from, zeros};
 use harness_calls::{GET_LOC, INTERP_ONE, INTERP_ONE_GRAD, INTERP_ONE_WITH_GRAD, same_place};

@@ -1,4 +1,6 @@
 // The cases of refusal 9: a query with a coordinate that is no number, alone and in batches, and what is easily missed of its order.
+#![tactic(auto)]
+
 use cases_calls::{
     Score, answer_of, cubic, held, kept, not_placed, rectilinear, refused_batch, regular,
     regular_from, told, walk, with_buffers, zeros,

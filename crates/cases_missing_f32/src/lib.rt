@@ -1,5 +1,7 @@
 // f32: written by tools/width from crates/cases_missing/src/lib.rt; what has no float is called there.
 // The cases of refusal 9: a query with a coordinate that is no number, alone and in batches, and what is easily missed of its order.
+#![tactic(auto)]
+
 use cases_calls::{Score, answer_of, told, walk};
 use cases_calls_f32::{
     cubic, held, kept, not_placed, rectilinear, refused_batch, regular, regular_from, with_buffers,

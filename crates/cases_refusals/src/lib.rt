@@ -1,4 +1,6 @@
 // The cases of refusals 1 to 6 and 10 that need no grid of their own, on both kinds, with what is easily missed of their order.
+#![tactic(auto)]
+
 use cases_calls::{
     Score, answered, held, rectilinear, rectilinear_refused, rectilinear_refused_order,
     rectilinear_taken, refused_asked, regular_from, regular_refused, regular_taken, taken,

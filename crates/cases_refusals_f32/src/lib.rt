@@ -1,5 +1,7 @@
 // f32: written by tools/width from crates/cases_refusals/src/lib.rt; what has no float is called there.
 // The cases of refusals 1 to 6 and 10 that need no grid of their own, on both kinds, with what is easily missed of their order.
+#![tactic(auto)]
+
 use cases_calls::Score;
 use cases_calls_f32::{
     answered, held, rectilinear, rectilinear_refused, rectilinear_refused_order, rectilinear_taken,

@@ -1,4 +1,6 @@
 // The cases of clauses 6.3 and 6.4: value and gradient in one call, the number of its sums, and its marks.
+#![tactic(auto)]
+
 ghost use Rattle.std.specs.Prelude.{◌≡◌, length};
 
 use cases_calls::{Score, cubic, held, rectilinear, regular, same_marks, told};

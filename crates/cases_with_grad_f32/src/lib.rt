@@ -1,5 +1,7 @@
 // f32: written by tools/width from crates/cases_with_grad/src/lib.rt; what has no float is called there.
 // The cases of clauses 6.3 and 6.4: value and gradient in one call, the number of its sums, and its marks.
+#![tactic(auto)]
+
 ghost use Rattle.std.specs.Prelude.{◌≡◌, length};
 
 use cases_calls::{Score, same_marks, told};

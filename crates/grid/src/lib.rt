@@ -1,4 +1,6 @@
 // What both kinds of grid share above their axes: what is asked of a query, and check 7. What a grid answers is defined in specs/.
+#![tactic(auto)]
+
 ghost use Rattle.std.specs.Prelude.{◌≡◌, ◌*◌, ◌/◌, ◌≤◌};
 ghost use Rattle.multicubic.specs.declared.Outcome.TheVariants.{Accepted};
 ghost use Rattle.multicubic.specs.Grid.{◌then◌};
@@ -8,7 +10,7 @@ ghost use Rattle.grid.specs.Internal.{is_component};
 use multicubic::Outcome;
 
 // What is asked of a query: its value, or component d of its gradient.
-#[derive(Drop)]
+#[derive(Clone, Copy)]
 pub enum Quantity {
     Value,
     Component(usize),

@@ -1,5 +1,7 @@
 // The grids of src/multicubic as values that a caller keeps: each holds what `new` of its kind is given, the slices by reference.
 // Every function hands the fields of its grid to the plain call, which looks at all of them anew: what a caller wrote into them is refused as there.
+#![tactic(auto)]
+
 ghost use Rattle.std.specs.Prelude.{◌≡◌, length};
 ghost use Rattle.std.specs.Float.{binary64};
 ghost use Rattle.multicubic.specs.Answers.{Says, answer_outcome, value_in};
@@ -13,7 +15,7 @@ ghost use Rattle.grids.specs.Kept.{kept_regular, kept_rectilinear};
 use multicubic::{Axis, EdgeMode, MarkedAnswer, MarkedGradient, MarkedPlaces, Outcome};
 
 // A regular grid.
-#[derive(Drop)]
+#[derive(Clone, Copy)]
 pub struct MulticubicRegular<'a> {
     pub axis_count: usize,
     pub axes: [Axis; 4],
@@ -22,7 +24,7 @@ pub struct MulticubicRegular<'a> {
 }
 
 // A rectilinear grid; its axes are joined one after the other.
-#[derive(Drop)]
+#[derive(Clone, Copy)]
 pub struct MulticubicRectilinear<'a, 'b> {
     pub axis_count: usize,
     pub counts: [usize; 4],

@@ -1,6 +1,8 @@
 // f32: written by tools/width from crates/grids/src/lib.rt; what has no float is called there.
 // The grids of src/multicubic as values that a caller keeps: each holds what `new` of its kind is given, the slices by reference.
 // Every function hands the fields of its grid to the plain call, which looks at all of them anew: what a caller wrote into them is refused as there.
+#![tactic(auto)]
+
 ghost use Rattle.std.specs.Prelude.{◌≡◌, length};
 ghost use Rattle.std.specs.Float.{binary32};
 ghost use Rattle.multicubic.specs.Answers.{Says, answer_outcome, value_in};
@@ -15,7 +17,7 @@ use multicubic::{EdgeMode, MarkedPlaces, Outcome};
 use multicubic_f32::{AxisF32, MarkedAnswerF32, MarkedGradientF32};
 
 // A regular grid.
-#[derive(Drop)]
+#[derive(Clone, Copy)]
 pub struct MulticubicRegularF32<'a> {
     pub axis_count: usize,
     pub axes: [AxisF32; 4],
@@ -24,7 +26,7 @@ pub struct MulticubicRegularF32<'a> {
 }
 
 // A rectilinear grid; its axes are joined one after the other.
-#[derive(Drop)]
+#[derive(Clone, Copy)]
 pub struct MulticubicRectilinearF32<'a, 'b> {
     pub axis_count: usize,
     pub counts: [usize; 4],

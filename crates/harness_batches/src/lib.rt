@@ -1,4 +1,6 @@
 // The batches on a group's queries: what their buffers hold before, what they are to hold, and the comparison.
+#![tactic(auto)]
+
 ghost use Rattle.std.specs.Prelude.{◌≡◌, length};
 
 use harness_calls::{INTERP, INTERP_GRAD, call_interp, call_interp_grad, same_float, same_outcome};
@@ -6,7 +8,7 @@ use harness_corpus::{Group, columns, plus};
 use harness_words::{ENTRY, Tally, float_of};
 
 // Where the walk stands: the tally, the next word, and what the batches give.
-#[derive(Drop)]
+#[derive(Clone, Copy)]
 pub struct Walk {
     pub tally: Tally,
     pub at: usize,

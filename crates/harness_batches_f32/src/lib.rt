@@ -1,5 +1,7 @@
 // f32: written by tools/width from crates/harness_batches/src/lib.rt; what has no float is called there.
 // The batches on a group's queries: what their buffers hold before, what they are to hold, and the comparison.
+#![tactic(auto)]
+
 ghost use Rattle.std.specs.Prelude.{◌≡◌, length};
 
 use harness_batches::{Walk, with_tally};

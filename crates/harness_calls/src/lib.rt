@@ -1,4 +1,6 @@
 // The calls under test on a group's grid, of either kind, and the comparison of the parts of an answer.
+#![tactic(auto)]
+
 use harness_corpus::{Expected, Group};
 use harness_words::{
     AXIS, CLASS, COMPONENT, NUMBER, ORIGIN, QUERY, Tally, VALUE, axis_of, bits_of, class_of,

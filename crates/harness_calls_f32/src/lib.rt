@@ -1,5 +1,7 @@
 // f32: written by tools/width from crates/harness_calls/src/lib.rt; what has no float is called there.
 // The calls under test on a group's grid, of either kind, and the comparison of the parts of an answer.
+#![tactic(auto)]
+
 use harness_calls::{INTERP_ONE_GRAD, same_outcome};
 use harness_corpus::Expected;
 use harness_corpus_f32::GroupF32;

@@ -1,4 +1,6 @@
 // Reads the corpus's groups and expected answers. Its format is in docs/CORPUS.md. A read past the end gives 0, and `state` tells of it.
+#![tactic(auto)]
+
 use harness_words::{float, word};
 use multicubic::{Axis, EdgeMode};
 
@@ -10,7 +12,7 @@ pub const OUT_OF_LIMITS: u64 = 3;
 pub const TRAILING: u64 = 4;
 
 // A group's grid, what `new` gives of it, and where its parts are in the corpus.
-#[derive(Drop)]
+#[derive(Clone, Copy)]
 pub struct Group {
     pub state: u64,
     pub rectilinear: bool,
@@ -31,7 +33,7 @@ pub struct Group {
 }
 
 // A query's expected answer.
-#[derive(Drop)]
+#[derive(Clone, Copy)]
 pub struct Expected {
     pub state: u64,
     pub number: u64,

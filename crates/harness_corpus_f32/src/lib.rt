@@ -1,5 +1,7 @@
 // f32: written by tools/width from crates/harness_corpus/src/lib.rt; what has no float is called there.
 // Reads the corpus's groups and expected answers. Its format is in docs/CORPUS.md. A read past the end gives 0, and `state` tells of it.
+#![tactic(auto)]
+
 use harness_corpus::{capped, columns, counts_at, limit, mode_of, most_queries, need, plus};
 use harness_words::word;
 use harness_words_f32::float;
@@ -7,7 +9,7 @@ use multicubic::EdgeMode;
 use multicubic_f32::AxisF32;
 
 // A group's grid, what `new` gives of it, and where its parts are in the corpus.
-#[derive(Drop)]
+#[derive(Clone, Copy)]
 pub struct GroupF32 {
     pub state: u64,
     pub rectilinear: bool,

@@ -1,4 +1,6 @@
 // What the test programs write to standard output.
+#![tactic(auto)]
+
 use harness_corpus::{CUT_SHORT, OUT_OF_LIMITS, TRAILING};
 use harness_words::{DIFFERS, Tally};
 use libc::STDOUT_FILENO;

@@ -1,4 +1,6 @@
 // The call for value and gradient together on a group's grid, of either kind, and the comparison of all single calls on a query.
+#![tactic(auto)]
+
 use harness_calls::{
     INTERP_ONE, INTERP_ONE_WITH_GRAD, call_get_loc, call_interp_one, call_interp_one_grad,
     same_components, same_gradient, same_places, same_value,

@@ -1,5 +1,7 @@
 // f32: written by tools/width from crates/harness_with_grad/src/lib.rt; what has no float is called there.
 // The call for value and gradient together on a group's grid, of either kind, and the comparison of all single calls on a query.
+#![tactic(auto)]
+
 use harness_calls::{INTERP_ONE, INTERP_ONE_WITH_GRAD, same_places};
 use harness_calls_f32::{
     call_get_loc, call_interp_one, call_interp_one_grad, same_components, same_gradient, same_value,

@@ -1,4 +1,6 @@
 // What the test programs share: words and floats of bytes, the parts of an answer as words, and the tally of comparisons.
+#![tactic(auto)]
+
 ghost use Rattle.std.specs.Prelude.{◌≡◌, ◌+◌, ◌*◌, ◌<◌, ◌≤◌, length, from_bits, slice_index, slice_index_or, to_bits};
 ghost use Rattle.std.specs.Float.{nan, binary64};
 ghost use Rattle.harness_words.specs.Bytes.{word_at};
@@ -8,7 +10,7 @@ ghost use Rattle.harness_words.specs.Tally.{class_of, compared};
 use multicubic::{Outcome, Saturation};
 
 // How far a run is: what agreed, and the first difference or fault, after which nothing more counts.
-#[derive(Drop)]
+#[derive(Clone, Copy)]
 pub struct Tally {
     // 0 while all agrees.
     pub state: u64,

@@ -1,5 +1,7 @@
 // f32: written by tools/width from crates/harness_words/src/lib.rt; what has no float is called there.
 // What the test programs share: words and floats of bytes, the parts of an answer as words, and the tally of comparisons.
+#![tactic(auto)]
+
 ghost use Rattle.std.specs.Prelude.{◌≡◌, ◌+◌, ◌*◌, ◌%◌, ◌≤◌, ◌<◌, length, get_or};
 ghost use Rattle.std.specs.Float.{nan, binary32};
 ghost use Rattle.std.specs.Float.Ieee.{of_bits, to_bits};

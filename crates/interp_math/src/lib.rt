@@ -1,4 +1,6 @@
 // Port of src/lib.rs (`mul_add`) and src/interp_math.rs, f64, without fma.
+#![tactic(auto)]
+
 ghost use Rattle.std.specs.Prelude.{◌≡◌};
 ghost use Rattle.std.specs.Float.{binary64};
 ghost use Rattle.interp_math.specs.Basis.{mul_add, hermite_basis, hermite_basis_derivative, scaled};

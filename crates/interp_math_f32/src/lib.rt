@@ -1,5 +1,7 @@
 // f32: written by tools/width from crates/interp_math/src/lib.rt; what has no float is called there.
 // Port of src/lib.rs (`mul_add`) and src/interp_math.rs, f32, without fma.
+#![tactic(auto)]
+
 ghost use Rattle.std.specs.Prelude.{◌≡◌};
 ghost use Rattle.std.specs.Float.{binary32};
 ghost use Rattle.interp_math.specs.Basis.{mul_add, hermite_basis, hermite_basis_derivative, scaled};

@@ -1,4 +1,6 @@
 // Port of src/multicubic/mod.rs (`Saturation`), and what both kinds of grid share: places, answers and checks 1 to 4.
+#![tactic(auto)]
+
 ghost use Rattle.std.specs.Prelude.{◌≡◌, false, ◌||◌, ◌≤◌, ltb, pos, ◌-ℤ◌, take};
 ghost use Rattle.multicubic.specs.Grid.{product, sum, any_over, lowest, misjoined, size_checks};
 ghost use Rattle.multicubic.specs.Place.{straight_of, place_of};
@@ -7,7 +9,7 @@ ghost use Rattle.multicubic.specs.Answers.{answer_outcome, answered, place_outco
 ghost use Rattle.multicubic.specs.Same.{as_answer};
 
 // Where a query lies on one axis.
-#[derive(Drop)]
+#[derive(Clone, Copy)]
 pub enum Saturation {
     None,
     InsideLow,
@@ -16,14 +18,14 @@ pub enum Saturation {
     OutsideHigh,
 }
 
-#[derive(Drop)]
+#[derive(Clone, Copy)]
 pub struct Place {
     pub origin: usize,
     pub class: Saturation,
 }
 
 // What `get_loc` finds.
-#[derive(Drop)]
+#[derive(Clone, Copy)]
 pub enum Loc {
     At(Place),
     NotANumber,
@@ -31,7 +33,7 @@ pub enum Loc {
 }
 
 // A regular axis.
-#[derive(Drop)]
+#[derive(Clone, Copy)]
 pub struct Axis {
     pub start: f64,
     pub step: f64,
@@ -40,7 +42,7 @@ pub struct Axis {
 
 // The way past an axis's ends: the cubic or the straight line, which the two Outside classes follow (Straight is the Rust's
 // `linearize_extrapolation`), or the end's node in place of the query.
-#[derive(Drop)]
+#[derive(Clone, Copy)]
 pub enum EdgeMode {
     Cubic,
     Straight,
@@ -48,14 +50,14 @@ pub enum EdgeMode {
 }
 
 // Past which ends of an axis a query lies.
-#[derive(Drop)]
+#[derive(Clone, Copy)]
 pub struct Marks {
     pub below: bool,
     pub above: bool,
 }
 
 // A single query's value, or the refusal.
-#[derive(Drop)]
+#[derive(Clone, Copy)]
 pub enum Answer {
     Value(f64),
     Refused {
@@ -66,7 +68,7 @@ pub enum Answer {
 }
 
 // The answer of a call without a value.
-#[derive(Drop)]
+#[derive(Clone, Copy)]
 pub enum Outcome {
     Accepted,
     Refused {
@@ -77,40 +79,40 @@ pub enum Outcome {
 }
 
 // Where a query lies on every axis: origin 0 and None past the axis count, and on refusal.
-#[derive(Drop)]
+#[derive(Clone, Copy)]
 pub struct PlaceAnswer {
     pub outcome: Outcome,
     pub places: [Place; 4],
 }
 
 // A query's gradient: +0 past the axis count, and on refusal.
-#[derive(Drop)]
+#[derive(Clone, Copy)]
 pub struct GradientAnswer {
     pub outcome: Outcome,
     pub gradient: [f64; 4],
 }
 
 // A single answer beside its marks, one pair for each axis: unset past the axis count, and on refusal.
-#[derive(Drop)]
+#[derive(Clone, Copy)]
 pub struct MarkedAnswer {
     pub answer: Answer,
     pub marks: [Marks; 4],
 }
 
-#[derive(Drop)]
+#[derive(Clone, Copy)]
 pub struct MarkedGradient {
     pub answer: GradientAnswer,
     pub marks: [Marks; 4],
 }
 
-#[derive(Drop)]
+#[derive(Clone, Copy)]
 pub struct MarkedPlaces {
     pub answer: PlaceAnswer,
     pub marks: [Marks; 4],
 }
 
 // The length of the joined axes of a rectilinear grid; a regular grid has none.
-#[derive(Drop)]
+#[derive(Clone, Copy)]
 pub enum AxesLength {
     Regular,
     Joined(usize),

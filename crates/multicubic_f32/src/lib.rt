@@ -1,5 +1,7 @@
 // f32: written by tools/width from crates/multicubic/src/lib.rt; what has no float is called there.
 // Port of src/multicubic/mod.rs (`Saturation`), and what both kinds of grid share: places, answers and checks 1 to 4.
+#![tactic(auto)]
+
 ghost use Rattle.std.specs.Prelude.{◌≡◌};
 ghost use Rattle.multicubic.specs.Answers.{answer_outcome, answered};
 ghost use Rattle.multicubic_f32.specs.Same.{as_answer};
@@ -7,7 +9,7 @@ ghost use Rattle.multicubic_f32.specs.Same.{as_answer};
 use multicubic::{Marks, Outcome};
 
 // A regular axis.
-#[derive(Drop)]
+#[derive(Clone, Copy)]
 pub struct AxisF32 {
     pub start: f32,
     pub step: f32,
@@ -15,7 +17,7 @@ pub struct AxisF32 {
 }
 
 // A single query's value, or the refusal.
-#[derive(Drop)]
+#[derive(Clone, Copy)]
 pub enum AnswerF32 {
     Value(f32),
     Refused {
@@ -26,20 +28,20 @@ pub enum AnswerF32 {
 }
 
 // A query's gradient: +0 past the axis count, and on refusal.
-#[derive(Drop)]
+#[derive(Clone, Copy)]
 pub struct GradientAnswerF32 {
     pub outcome: Outcome,
     pub gradient: [f32; 4],
 }
 
 // A single answer beside its marks, one pair for each axis: unset past the axis count, and on refusal.
-#[derive(Drop)]
+#[derive(Clone, Copy)]
 pub struct MarkedAnswerF32 {
     pub answer: AnswerF32,
     pub marks: [Marks; 4],
 }
 
-#[derive(Drop)]
+#[derive(Clone, Copy)]
 pub struct MarkedGradientF32 {
     pub answer: GradientAnswerF32,
     pub marks: [Marks; 4],

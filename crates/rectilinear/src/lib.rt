@@ -1,4 +1,6 @@
 // A rectilinear grid of src/multicubic/rectilinear.rs: `new`, the place, the value and the gradient of a query.
+#![tactic(auto)]
+
 ghost use Rattle.std.specs.Prelude.{◌≡◌, length};
 ghost use Rattle.std.specs.Float.{binary64};
 ghost use Rattle.multicubic.specs.Answers.{Says, answer_outcome, value_in};

@@ -1,5 +1,7 @@
 // f32: written by tools/width from crates/rectilinear_axis/src/lib.rt; what has no float is called there.
 // One axis of src/multicubic/rectilinear.rs: the place of a query, and the weights of its block.
+#![tactic(auto)]
+
 ghost use Rattle.std.specs.Prelude.{◌≡◌, false, cond, ◌+◌, ◌-◌, ◌*◌, ◌≤◌, ◌<◌, length, get_or};
 ghost use Rattle.std.specs.Float.{binary32, nan};
 ghost use Rattle.std.specs.Float.Ieee.{lt};

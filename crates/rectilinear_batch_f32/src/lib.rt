@@ -1,5 +1,7 @@
 // f32: written by tools/width from crates/rectilinear_batch/src/lib.rt; what has no float is called there.
 // Batches on a rectilinear grid: `interp` and `interp_grad` of src/multicubic/rectilinear.rs.
+#![tactic(auto)]
+
 ghost use Rattle.std.specs.Prelude.{◌≡◌, ◌*◌, length};
 ghost use Rattle.std.specs.Float.{binary32};
 ghost use Rattle.multicubic.specs.Answers.{Says};

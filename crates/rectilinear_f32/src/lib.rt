@@ -1,5 +1,7 @@
 // f32: written by tools/width from crates/rectilinear/src/lib.rt; what has no float is called there.
 // A rectilinear grid of src/multicubic/rectilinear.rs: `new`, the place, the value and the gradient of a query.
+#![tactic(auto)]
+
 ghost use Rattle.std.specs.Prelude.{◌≡◌, length};
 ghost use Rattle.std.specs.Float.{binary32};
 ghost use Rattle.multicubic.specs.Answers.{Says, answer_outcome, value_in};

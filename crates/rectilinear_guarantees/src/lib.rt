@@ -1,5 +1,7 @@
 // Section 8 said of the calls on a rectilinear grid: two tables on the same axes, each with its own values and setting, asked alone and in a batch.
 // And clause 2.6: what a grid that is taken is relied on for.
+#![tactic(auto)]
+
 ghost use Rattle.std.specs.Prelude.{◌≡◌, length, take};
 ghost use Rattle.std.specs.Float.{binary64};
 ghost use Rattle.multicubic.specs.Same.{as_answer};

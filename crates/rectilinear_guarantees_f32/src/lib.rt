@@ -1,6 +1,8 @@
 // f32: written by tools/width from crates/rectilinear_guarantees/src/lib.rt; what has no float is called there.
 // Section 8 said of the calls on a rectilinear grid: two tables on the same axes, each with its own values and setting, asked alone and in a batch.
 // And clause 2.6: what a grid that is taken is relied on for.
+#![tactic(auto)]
+
 ghost use Rattle.std.specs.Prelude.{◌≡◌, length, take};
 ghost use Rattle.std.specs.Float.{binary32};
 ghost use Rattle.multicubic.specs.declared.AxesLength.TheVariants.{Joined};

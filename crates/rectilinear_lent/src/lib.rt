@@ -1,5 +1,7 @@
 // The calls on a rectilinear grid that is gathered from slices. Where a slice is too short they are refused, by that or by a check of the grid that
 // comes before.
+#![tactic(auto)]
+
 ghost use Rattle.std.specs.Prelude.{◌≡◌, length};
 ghost use Rattle.std.specs.Float.{binary64};
 ghost use Rattle.multicubic.specs.Same.{as_answer};

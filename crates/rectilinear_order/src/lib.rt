@@ -1,4 +1,6 @@
 // The order of the axes of a rectilinear grid: checks 5, 6 and 10. The Rust compares only the first two entries of each axis.
+#![tactic(auto)]
+
 ghost use Rattle.std.specs.Prelude.{◌≡◌, ℕ, ◌≤◌, ◌<◌, length, get_or, take};
 ghost use Rattle.multicubic.specs.Grid.{sum, lowest};
 ghost use Rattle.rectilinear_order.specs.Grid.{axes_of, not_rising, disorder, order_checks};

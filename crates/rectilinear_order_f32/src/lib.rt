@@ -1,5 +1,7 @@
 // f32: written by tools/width from crates/rectilinear_order/src/lib.rt; what has no float is called there.
 // The order of the axes of a rectilinear grid: checks 5, 6 and 10. The Rust compares only the first two entries of each axis.
+#![tactic(auto)]
+
 ghost use Rattle.std.specs.Prelude.{◌≡◌, ℕ, ◌≤◌, ◌<◌, length, get_or, take};
 ghost use Rattle.multicubic.specs.Grid.{sum, lowest};
 ghost use Rattle.rectilinear_order.specs.Grid.{axes_of, not_rising, disorder, order_checks};

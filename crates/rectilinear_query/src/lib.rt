@@ -1,4 +1,6 @@
 // A query on a rectilinear grid that is taken: what single answers and batches ask for each of their queries.
+#![tactic(auto)]
+
 ghost use Rattle.std.specs.Prelude.{◌≡◌, Bool, ◌+◌, ◌*◌, ◌≤◌, ◌<◌, length};
 ghost use Rattle.std.specs.Float.{binary64};
 ghost use Rattle.multicubic.specs.declared.EdgeMode.{EdgeMode};

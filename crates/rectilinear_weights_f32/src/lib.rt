@@ -1,6 +1,8 @@
 // f32: written by tools/width from crates/rectilinear_weights/src/lib.rt; what has no float is called there.
 // The weights of a block on an axis of src/multicubic/rectilinear.rs, by where the query lies in it: inside, or at either end.
 // At an end x is the query less point 1, or less point 2 at the high end; h01, h12 and h23 are the block's gaps.
+#![tactic(auto)]
+
 ghost use Rattle.std.specs.Prelude.{◌≡◌};
 ghost use Rattle.std.specs.Float.{binary32};
 ghost use Rattle.std.specs.Float.Ieee.{div, neg};

@@ -1,5 +1,7 @@
 // Section 8 said of the call that gives value and gradient together on a rectilinear grid: two tables on the same axes, each with its own values and
 // setting. And clause 6.3: it answers as the two calls apart.
+#![tactic(auto)]
+
 ghost use Rattle.std.specs.Prelude.{take};
 ghost use Rattle.std.specs.Float.{binary64};
 ghost use Rattle.multicubic.specs.Answers.{answer_outcome};

@@ -1,4 +1,6 @@
 // Strides, and the reduction of a block by four-term sums, over 1 to 4 axes: what the value and each component end in.
+#![tactic(auto)]
+
 ghost use Rattle.std.specs.Prelude.{◌≡◌, false, ℕ, ◌+◌, ◌*◌, ◌^◌, ◌≤◌, ◌<◌, length, get_or, take};
 ghost use Rattle.std.specs.Float.{binary64};
 ghost use Rattle.multicubic.specs.Grid.{any_over};

@@ -1,5 +1,7 @@
 // f32: written by tools/width from crates/reduction/src/lib.rt; what has no float is called there.
 // Strides, and the reduction of a block by four-term sums, over 1 to 4 axes: what the value and each component end in.
+#![tactic(auto)]
+
 ghost use Rattle.std.specs.Prelude.{◌≡◌, ◌+◌, ◌*◌, ◌<◌, length, get_or, take};
 ghost use Rattle.std.specs.Float.{binary32};
 ghost use Rattle.reduction.specs.Value.{reduce_of};

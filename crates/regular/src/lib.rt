@@ -1,4 +1,6 @@
 // A regular grid of src/multicubic/regular.rs: `new`, the place, the value and the gradient of a query.
+#![tactic(auto)]
+
 ghost use Rattle.std.specs.Prelude.{◌≡◌, ◌≤◌, length, take};
 ghost use Rattle.std.specs.Float.{binary64};
 ghost use Rattle.multicubic.specs.Grid.{lowest};

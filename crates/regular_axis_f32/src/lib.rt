@@ -1,5 +1,7 @@
 // f32: written by tools/width from crates/regular_axis/src/lib.rt; what has no float is called there.
 // One axis of src/multicubic/regular.rs: the place of a query, and the weights of its block.
+#![tactic(auto)]
+
 ghost use Rattle.std.specs.Prelude.{◌≡◌, ◌-◌, ◌<◌, ◌≤◌, cond, if◌then◌else◌};
 ghost use Rattle.std.specs.Float.{binary32};
 ghost use Rattle.std.specs.Float.Ieee.{lt};

@@ -1,4 +1,6 @@
 // Batches on a regular grid: `interp` and `interp_grad` of src/multicubic/regular.rs.
+#![tactic(auto)]
+
 ghost use Rattle.std.specs.Prelude.{◌≡◌, ◌*◌, length};
 ghost use Rattle.std.specs.Float.{binary64};
 ghost use Rattle.multicubic.specs.Answers.{Says};

@@ -1,5 +1,7 @@
 // f32: written by tools/width from crates/regular_batch/src/lib.rt; what has no float is called there.
 // Batches on a regular grid: `interp` and `interp_grad` of src/multicubic/regular.rs.
+#![tactic(auto)]
+
 ghost use Rattle.std.specs.Prelude.{◌≡◌, ◌*◌, length};
 ghost use Rattle.std.specs.Float.{binary32};
 ghost use Rattle.multicubic.specs.Answers.{Says};

@@ -1,5 +1,7 @@
 // f32: written by tools/width from crates/regular/src/lib.rt; what has no float is called there.
 // A regular grid of src/multicubic/regular.rs: `new`, the place, the value and the gradient of a query.
+#![tactic(auto)]
+
 ghost use Rattle.std.specs.Prelude.{◌≡◌, ◌≤◌, length, take};
 ghost use Rattle.std.specs.Float.{binary32};
 ghost use Rattle.multicubic.specs.Grid.{lowest};

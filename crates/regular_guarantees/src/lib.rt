@@ -1,4 +1,6 @@
 // Section 8 said of the calls on a regular grid: two tables on the same axes, each with its own values and setting, asked alone and in a batch.
+#![tactic(auto)]
+
 ghost use Rattle.std.specs.Prelude.{◌≡◌, take};
 ghost use Rattle.std.specs.Float.{binary64};
 ghost use Rattle.multicubic.specs.Same.{as_answer};

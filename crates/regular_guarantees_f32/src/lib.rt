@@ -1,5 +1,7 @@
 // f32: written by tools/width from crates/regular_guarantees/src/lib.rt; what has no float is called there.
 // Section 8 said of the calls on a regular grid: two tables on the same axes, each with its own values and setting, asked alone and in a batch.
+#![tactic(auto)]
+
 ghost use Rattle.std.specs.Prelude.{◌≡◌, take};
 ghost use Rattle.std.specs.Float.{binary32};
 ghost use Rattle.multicubic.specs.declared.EdgeMode.TheVariants.{Held};

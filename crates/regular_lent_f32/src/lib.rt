@@ -1,6 +1,8 @@
 // f32: written by tools/width from crates/regular_lent/src/lib.rt; what has no float is called there.
 // The calls on a regular grid that is gathered from slices. Where a slice is too short they are refused, by that or by a check of the grid that
 // comes before.
+#![tactic(auto)]
+
 ghost use Rattle.std.specs.Prelude.{◌≡◌, length};
 ghost use Rattle.std.specs.Float.{binary32};
 ghost use Rattle.slices.specs.Slices.{earlier};

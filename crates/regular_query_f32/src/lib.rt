@@ -1,5 +1,7 @@
 // f32: written by tools/width from crates/regular_query/src/lib.rt; what has no float is called there.
 // A query on a regular grid that is taken: what single answers and batches ask for each of their queries.
+#![tactic(auto)]
+
 ghost use Rattle.std.specs.Prelude.{◌≡◌, Bool, ◌*◌, ◌≤◌, ◌<◌, length};
 ghost use Rattle.std.specs.Float.{binary32};
 ghost use Rattle.multicubic.specs.declared.EdgeMode.{EdgeMode};

@@ -1,4 +1,6 @@
 // Value and gradient of a query on a regular grid in one call, with the number of four-term sums that it took.
+#![tactic(auto)]
+
 ghost use Rattle.std.specs.Prelude.{◌≡◌, length};
 ghost use Rattle.std.specs.Float.{binary64};
 ghost use Rattle.multicubic.specs.Answers.{Says, answer_outcome, value_in};

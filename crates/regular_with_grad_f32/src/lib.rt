@@ -1,5 +1,7 @@
 // f32: written by tools/width from crates/regular_with_grad/src/lib.rt; what has no float is called there.
 // Value and gradient of a query on a regular grid in one call, with the number of four-term sums that it took.
+#![tactic(auto)]
+
 ghost use Rattle.std.specs.Prelude.{◌≡◌, length};
 ghost use Rattle.std.specs.Float.{binary32};
 ghost use Rattle.multicubic.specs.Answers.{Says, answer_outcome, value_in};

@@ -1,6 +1,8 @@
 // f32: written by tools/width from crates/regular_with_grad_guarantees/src/lib.rt; what has no float is called there.
 // Section 8 said of the call that gives value and gradient together on a regular grid: two tables on the same axes, each with its own values and
 // setting. And clause 6.3: it answers as the two calls apart.
+#![tactic(auto)]
+
 ghost use Rattle.std.specs.Prelude.{take};
 ghost use Rattle.std.specs.Float.{binary32};
 ghost use Rattle.multicubic.specs.Answers.{answer_outcome};

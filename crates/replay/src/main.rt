@@ -1,4 +1,6 @@
 // Replays the corpus of answers that the Rust gave (data/corpus.bin; its format is in docs/CORPUS.md) and compares every answer of every call.
+#![tactic(auto)]
+
 use harness_report::{report, say};
 use harness_words::decode;
 use replay_walk::run;

@@ -1,5 +1,7 @@
 // f32: written by tools/width from crates/replay/src/main.rt; what has no float is called there.
 // Replays the corpus of answers that the Rust gave (data/corpus.bin; its format is in docs/CORPUS.md) and compares every answer of every call.
+#![tactic(auto)]
+
 use harness_report::{report, say};
 use harness_words_f32::decode;
 use replay_walk_f32::run;

@@ -1,4 +1,6 @@
 // Walks the corpus: each group, each of its queries, then its batches.
+#![tactic(auto)]
+
 ghost use Rattle.std.specs.Prelude.{◌≤◌};
 
 use harness_batches::{Walk, marked_words, put, put_gradient, run_batches, with_tally};

@@ -1,5 +1,7 @@
 // f32: written by tools/width from crates/replay_walk/src/lib.rt; what has no float is called there.
 // Walks the corpus: each group, each of its queries, then its batches.
+#![tactic(auto)]
+
 use harness_batches::{Walk, put, put_gradient, with_tally};
 use harness_batches_f32::{marked_words, run_batches};
 use harness_calls::{NEW, same_outcome};

@@ -1,4 +1,6 @@
 // The reduction of a block to its value and to every component of its gradient at once: a sum that several of them need is taken once.
+#![tactic(auto)]
+
 ghost use Rattle.std.specs.Prelude.{◌≡◌, ℕ, ◌+◌, ◌*◌, ◌^◌, ◌≤◌, ◌<◌, [], ◌∷◌, length, get_or, take};
 ghost use Rattle.std.specs.Float.{nan, binary64};
 ghost use Rattle.ieee.specs.Numbers.{zero};
@@ -11,7 +13,7 @@ use counted_sums::{Sums, none, sum4};
 use reduction::along;
 
 // What the axes so far reduce a block to: its value, a component for each of these axes and +0 for the others; and the sums taken, also before it.
-#[derive(Drop)]
+#[derive(Clone, Copy)]
 pub struct Shared {
     pub value: f64,
     pub gradient: [f64; 4],

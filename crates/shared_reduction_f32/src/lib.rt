@@ -1,5 +1,7 @@
 // f32: written by tools/width from crates/shared_reduction/src/lib.rt; what has no float is called there.
 // The reduction of a block to its value and to every component of its gradient at once: a sum that several of them need is taken once.
+#![tactic(auto)]
+
 ghost use Rattle.std.specs.Prelude.{◌≡◌, ℕ, ◌+◌, ◌*◌, ◌^◌, ◌≤◌, ◌<◌, [], ◌∷◌, length, get_or, take};
 ghost use Rattle.std.specs.Float.{nan, binary32};
 ghost use Rattle.ieee.specs.Numbers.{zero};
@@ -12,7 +14,7 @@ use counted_sums_f32::{SumsF32, none, sum4};
 use reduction::along;
 
 // What the axes so far reduce a block to: its value, a component for each of these axes and +0 for the others; and the sums taken, also before it.
-#[derive(Drop)]
+#[derive(Clone, Copy)]
 pub struct SharedF32 {
     pub value: f32,
     pub gradient: [f32; 4],

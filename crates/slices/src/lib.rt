@@ -1,5 +1,7 @@
 // What slices of any length add to the calls: arrays gathered from them, and the refusals of those that are too short. The setting comes as a
 // number; one that names none is refused with them.
+#![tactic(auto)]
+
 ghost use Rattle.std.specs.Prelude.{◌≡◌, min, get_or};
 ghost use Rattle.ieee.specs.Numbers.{zero};
 ghost use Rattle.slices.specs.Axes.{axis_from, axes_from};

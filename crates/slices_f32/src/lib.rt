@@ -1,6 +1,8 @@
 // f32: written by tools/width from crates/slices/src/lib.rt; what has no float is called there.
 // What slices of any length add to the calls: arrays gathered from them, and the refusals of those that are too short. The setting comes as a
 // number; one that names none is refused with them.
+#![tactic(auto)]
+
 ghost use Rattle.std.specs.Prelude.{◌≡◌, get_or};
 ghost use Rattle.ieee.specs.Numbers.{zero};
 ghost use Rattle.slices.specs.Axes.{axis_from, axes_from};

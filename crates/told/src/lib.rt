@@ -1,4 +1,6 @@
 // What the calls for C tell and write: the number, query and axis beside it, and entries of slices of any length.
+#![tactic(auto)]
+
 ghost use Rattle.std.specs.Prelude.{◌≡◌, min, set};
 ghost use Rattle.multicubic.specs.Answers.{number_of, answer_outcome};
 ghost use Rattle.multicubic.specs.Same.{as_answer};

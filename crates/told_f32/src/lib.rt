@@ -1,5 +1,7 @@
 // f32: written by tools/width from crates/told/src/lib.rt; what has no float is called there.
 // What the calls for C tell and write: the number, query and axis beside it, and entries of slices of any length.
+#![tactic(auto)]
+
 ghost use Rattle.std.specs.Prelude.{◌≡◌, set};
 ghost use Rattle.multicubic.specs.Answers.{answer_outcome};
 ghost use Rattle.told.specs.Told.{leaves_marked, with_value, with_first, with_both};

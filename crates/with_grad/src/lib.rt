@@ -1,4 +1,6 @@
 // The answer of the call that gives value and gradient together.
+#![tactic(auto)]
+
 ghost use Rattle.multicubic.specs.Same.{as_answer};
 ghost use Rattle.shared_sums.specs.Internal.{RefusedBy};
 
@@ -6,7 +8,7 @@ use counted_sums::{Sums, none};
 use multicubic::{Answer, Marks, Outcome, answered, unmarked};
 
 // The value or the refusal, beside its marks; the gradient, +0 past the axis count and on refusal; the four-term sums that were taken, none on refusal.
-#[derive(Drop)]
+#[derive(Clone, Copy)]
 pub struct ValueAndGradient {
     pub answer: Answer,
     pub marks: [Marks; 4],

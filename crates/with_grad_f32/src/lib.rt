@@ -1,5 +1,7 @@
 // f32: written by tools/width from crates/with_grad/src/lib.rt; what has no float is called there.
 // The answer of the call that gives value and gradient together.
+#![tactic(auto)]
+
 ghost use Rattle.shared_sums.specs.Internal.{RefusedBy};
 ghost use Rattle.multicubic_f32.specs.Same.{as_answer};
 
@@ -8,7 +10,7 @@ use multicubic::{Marks, Outcome, unmarked};
 use multicubic_f32::{AnswerF32, answered};
 
 // The value or the refusal, beside its marks; the gradient, +0 past the axis count and on refusal; the four-term sums that were taken, none on refusal.
-#[derive(Drop)]
+#[derive(Clone, Copy)]
 pub struct ValueAndGradientF32 {
     pub answer: AnswerF32,
     pub marks: [Marks; 4],
