@@ -2,7 +2,7 @@
 use Prim.Native.Nat.{◌-◌}
 use mathlib.Core.Path.{◌≡◌, refl, sym, ◌∙◌}
 use native.Mathlib.Omega.{arith}
-use lib.ListN.{length, length-map}
+use lib.ListN.{length}
 use lib.Ieee.{binary64, of_bits}
 use Rattle.shared_sums.proofs.Joining.{graded_none, graded-turn, graded-own}
 use Rattle.shared_reduction.proofs.over_axis.Goals as goal
@@ -14,10 +14,10 @@ pub loop-d-init : goal.loop-d-init
 unfolding of_bits
 loop-d-init c =
     let s = c in
-    let l0 : length s.args.v0.gradient ≡ 4 = sym (length-map s.args.v0.gradient _) ∙ s.well_formed.1.1.1.0.1.1.1.0.1.0.1 in
-    let l1 : length s.args.v1.gradient ≡ 4 = sym (length-map s.args.v1.gradient _) ∙ s.well_formed.1.1.1.1.0.1.1.1.0.1.0.1 in
-    let l2 : length s.args.v2.gradient ≡ 4 = sym (length-map s.args.v2.gradient _) ∙ s.well_formed.1.1.1.1.1.0.1.1.1.0.1.0.1 in
-    let l3 : length s.args.v3.gradient ≡ 4 = sym (length-map s.args.v3.gradient _) ∙ s.well_formed.1.1.1.1.1.1.0.1.1.1.0.1.0.1 in
+    let l0 : length s.args.v0.gradient ≡ 4 = s.well_formed.1.1.1.0.1.1.1.0.1.0.1 in
+    let l1 : length s.args.v1.gradient ≡ 4 = s.well_formed.1.1.1.1.0.1.1.1.0.1.0.1 in
+    let l2 : length s.args.v2.gradient ≡ 4 = s.well_formed.1.1.1.1.1.0.1.1.1.0.1.0.1 in
+    let l3 : length s.args.v3.gradient ≡ 4 = s.well_formed.1.1.1.1.1.1.0.1.1.1.0.1.0.1 in
     (omega arith, s.requires.axis_bound, l0, l1, l2, l3, omega (arith, s.requires.axis_bound_2, c.sum4-value.ensures.taken_value), omega arith, graded_none binary64 _ _ _ _ _ _ refl)
 
 pub sum4-component-requires : goal.sum4-component-requires
