@@ -39,7 +39,7 @@ pub returns-in-Refused : goal.returns-in-Refused
 unfolding of_bits
 returns-in-Refused c =
     let l = c in
-    let w = grading-refused (fits l) l.loop-d.invariant.5 c.loop-d-test.true c.answer_at-component.ensures (ap as_answer c.in-Refused.is) in
+    let w = grading-refused (fits (goal.at.returns-in-Refused c).At-loop-d) l.loop-d.invariant.5 c.loop-d-test.true c.answer_at-component.ensures (ap as_answer c.in-Refused.is) in
     record {
       outcome_value = c.outcome_of.ensures ∙ w.0;
       gradient_value = w.1;
@@ -48,7 +48,7 @@ returns-in-Refused c =
 pub loop-d-preserved : goal.loop-d-preserved
 loop-d-preserved c =
     let l = c in
-    let next = grading-turn (fits l) l.loop-d.invariant.5 c.loop-d-test.true c.answer_at-component.ensures (ap as_answer c.in-Value.is) in
+    let next = grading-turn (fits (goal.at.loop-d-preserved c).At-loop-d) l.loop-d.invariant.5 c.loop-d-test.true c.answer_at-component.ensures (ap as_answer c.in-Value.is) in
     (omega arith, l.loop-d.invariant.1, l.loop-d.invariant.2, l.loop-d.invariant.3, l.loop-d.invariant.4, next)
 
 pub returns : goal.returns
