@@ -1,7 +1,7 @@
 -- `new`: the refusal of checks 1 to 4, or check 5.
 use mathlib.Core.Path.{refl, sym, ◌∙◌}
 use Rattle.multicubic.proofs.Passed.{accepted}
-use Rattle.multicubic.proofs.Said.{also_says}
+use Rattle.multicubic.proofs.Said.{says}
 use Rattle.regular.proofs.new.Goals as goal
 
 pub first_not_rising-requires : goal.first_not_rising-requires
@@ -18,8 +18,7 @@ returns-in-Refused c =
 pub returns-in-Accepted : goal.returns-in-Accepted
 returns-in-Accepted c =
     let s = c in
-    let every = rw (← s.counts_of.ensures, ← s.check_sizes-sizes.ensures, c.in-Accepted.is) (also_says c.first_not_rising.ensures) in
     record {
-      value = every.0;
-      says = every.1;
+      value = rw (← s.counts_of.ensures, ← s.check_sizes-sizes.ensures, c.in-Accepted.is) c.first_not_rising.ensures;
+      says = rw (← s.counts_of.ensures, ← s.check_sizes-sizes.ensures, c.in-Accepted.is) (says c.first_not_rising.ensures);
     }
