@@ -17,7 +17,7 @@ abbrev pub Typed : Format → (ℕ → Float) → Type 0
 Typed f xs = (k : ℕ) → T (fits f (xs k))
 
 -- an array's entries; past its end a NaN stands, which every format holds
-pub array_fits : (f : Format) (xs : List Float) (vs : List Val) → shadow (each Float (FloatOf f).own xs vs) → Typed f (at xs)
+pub array_fits : (f : Format) (xs : List Float) (vs : List Val) → shadow (each Float (FloatOf f).own_val xs vs) → Typed f (at xs)
 array_fits f [] vs p k = nan-fits f
 array_fits f (x ∷ xs) [] p k = absurd p
 array_fits f (x ∷ xs) (v ∷ vs) p zero = passes (fits f x) p.0.1
