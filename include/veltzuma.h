@@ -7,8 +7,8 @@
  * such call, and does not link. The calls interp_one_with_grad came to version 4 without changing another, so that an archive of
  * version 4 may lack them; then a program that calls them does not link.
  *
- * The archives are libcapi.a (`rt staticlib capi`) and, for single precision, libcapi_f32.a (`rt staticlib capi_f32`), for x86-64. Link them
- * as they are; they need no other library.
+ * The archives are libcapi.a and, for single precision, libcapi_f32.a, for x86-64: `./veltzuma build` writes them beside the library that it names.
+ * Link them as they are; they need no other library.
  *
  * Every call takes any input. A slice is a pointer and a length in entries, and may have any length; a null pointer with length 0
  * is an empty slice, a null pointer with another length is not allowed. The slices of one call must not overlap. Nothing is kept

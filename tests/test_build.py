@@ -26,20 +26,50 @@ if [ "$1" = "${HANG:-}" ]; then
 fi
 case $1 in
 version) echo "${KIT:-kit of the tests}"; exit "${TELLS:-0}" ;;
-check)
-    shift
-    for name; do echo "rt: $name proved (1 s)"; done
+all)
+    # In the folder of the crate that stands on all others, and for those below it.
+    [ "$2 $3 ${PWD##*/}" = 'check --jobs capi_c_f32' ] || exit 99
+    shape=new
+    for name in $(cat "$BELOW"); do
+        echo "== $name"
+        # As one that is proved now; whose work is taken from elsewhere; that was proved before.
+        case $shape in
+        new) echo "fn $name::f: proved"; echo 'logic=proved functions=1 sum=0'; shape=taken ;;
+        taken) echo "rt: $name: begins with what a check kept in /elsewhere"; shape=old ;;
+        old) shape=new ;;
+        esac
+    done
+    [ "${CHECKED:-0}" = 0 ] || printf '%s\\n' '== failing' 'fn failing::f: not proved' 'logic=not-proved' '== afterwards'
+    printf '%s\\n' '== summary' 'capi: ok' '2 of 2 crates ok'
     sleep "${SLEEP:-0}"
     exit "${CHECKED:-0}" ;;
-staticlib)
-    for name in $(seq "$(grep -c : crates.txt)"); do echo "rt: crate$name proved (unchanged)"; done
-    [ "$2" != capi ] || sleep "${COMPILING:-0}"
-    mkdir -p target/staticlib && cp "$ARCHIVES/lib$2.a" target/staticlib/
+lib)
+    archive=$(case ${PWD##*/} in capi_c) echo capi ;; capi_c_f32) echo capi_f32 ;; esac)
+    [ "$# ${archive:-none}" != "1 none" ] || exit 99
+    echo "logic=proved functions=1 sum=0"
+    [ "$archive" != capi ] || sleep "${COMPILING:-0}"
+    mkdir -p out && cp "$ARCHIVES/lib$archive.a" "out/lib${PWD##*/}.a"
     exit "${COMPILED:-0}" ;;
-ci) echo "jobs ${RT_JOBS:-none}"; printf "${SAID-3 passed, 0 failed\\n}"; exit "${GATE:-0}" ;;
+ci)
+    # Of the whole checkout.
+    [ $# = 1 ] && [ -f crates.txt ] || exit 99
+    echo "jobs ${RT_JOBS:-none}"; printf "${OK-rt: ok; handles allowed: none; must-fail edits: 2 refused; and more\\n}"; printf "${SAID-3 passed, 0 failed\\n}"; exit "${GATE:-0}" ;;
 esac
 '''
 SAMPLE = 'tables/synthetic-strokes.table'
+
+
+def below(name):
+    """The crate and all that it stands on, by crates.txt."""
+    lines = (line.partition('#')[0].partition(':') for line in text_of(os.path.join(TOP, 'crates.txt')).split('\n'))
+    named = {line[0].split()[0]: line[2].split() for line in lines if line[1]}
+    found, left = set(), [name]
+    while left:
+        one = left.pop()
+        if one in named and one not in found:
+            found.add(one)
+            left += named[one]
+    return sorted(found)
 
 
 class Copy(unittest.TestCase):
@@ -48,7 +78,10 @@ class Copy(unittest.TestCase):
         self.addCleanup(shutil.rmtree, self.folder, ignore_errors=True)
         self.top, self.bin, self.calls = (os.path.join(self.folder, name) for name in ('top', 'bin', 'calls'))
         shutil.copytree(TOP, self.top, ignore=lambda folder, names: [name for name in names if folder == TOP and name in ('target', 'build', '.git', 'crates', 'docs')])
-        os.symlink(os.path.join(TOP, 'crates'), os.path.join(self.top, 'crates'))
+        os.mkdir(os.path.join(self.top, 'crates'))
+        self.own_crates()
+        with open(os.path.join(self.folder, 'below'), 'w') as out:
+            out.write('\n'.join(below('capi_c_f32')))
         os.mkdir(self.bin)
         self.script('rt', RT)
         # What a machine has beside the kit.
@@ -65,12 +98,16 @@ class Copy(unittest.TestCase):
         os.chmod(path, 0o755)
 
     def own_crates(self, *names):
-        """Copies of these crates, which a test may alter; the others stay those of the repository."""
+        """Copies of these crates, which a test may alter, and of those that the archives are written in; the others stay those of the repository."""
         crates = os.path.join(self.top, 'crates')
-        os.remove(crates)
+        shutil.rmtree(crates)
         os.mkdir(crates)
         for name in os.listdir(os.path.join(TOP, 'crates')):
-            (shutil.copytree if name in names else os.symlink)(os.path.join(TOP, 'crates', name), os.path.join(crates, name))
+            whence, to = os.path.join(TOP, 'crates', name), os.path.join(crates, name)
+            if name in (*names, 'capi_c', 'capi_c_f32'):
+                shutil.copytree(whence, to, ignore=shutil.ignore_patterns('out'))
+            else:
+                os.symlink(whence, to)
 
     def put(self, name, text):
         """Another file in place of one of the copy."""
@@ -78,7 +115,8 @@ class Copy(unittest.TestCase):
             out.write(text)
 
     def environment(self, **env):
-        return {'PATH': self.bin, 'CALLS': self.calls, 'ARCHIVES': os.path.dirname(LIBRARY), 'HOME': self.folder, 'PIDS': self.folder + '/pids', **env}
+        return {'PATH': self.bin, 'CALLS': self.calls, 'ARCHIVES': os.path.dirname(LIBRARY), 'HOME': self.folder, 'PIDS': self.folder + '/pids',
+                'BELOW': self.folder + '/below', **env}
 
     def tool(self, *words, **env):
         done = subprocess.run([sys.executable, os.path.join(self.top, 'veltzuma'), *words], stdout=subprocess.PIPE, stderr=subprocess.PIPE,
@@ -114,7 +152,7 @@ class Build(Copy):
         # Whichever is the first.
         self.assertIn(lines[count + 3:-2], [[f'{one} is compiled, {other} is left', f'{other} is compiled'] for one, other in (('capi', 'capi_f32'), ('capi_f32', 'capi'))])
         self.assertRegex(lines[-1], r'built in \d+:\d\d min')
-        self.assertEqual(self.called(), ['check', 'staticlib', 'staticlib'])
+        self.assertEqual(self.called(), ['all', 'lib', 'lib'])
         # Afterwards nothing is built, and nothing said.
         self.assertEqual(self.check(), (0, out, ''))
         self.assertEqual(self.called(), [])
@@ -177,18 +215,23 @@ Copy that one file here, to x86-64 Linux, and name the copy: VELTZUMA_LIBRARY=PA
         status, out, err = self.check(CHECKED='1')
         self.assertEqual((status, out), (2, ''))
         told = err.rstrip('\n').split('\n')[-1]
-        self.assertRegex(told, r"^the library is not built: 'rt check' ended with status 1; \S+ has what it printed$")
+        self.assertRegex(told, r"^the library is not built: 'rt all' ended with status 1; \S+ has what it printed$")
         with open(os.path.abspath(re.search(r'; (\S+) has', told)[1])) as log:
-            self.assertIn('rt: ieee proved', log.read())
+            said = log.read()
+        for line in ('== ieee\n', 'fn capi::f: proved\n', '== failing\n'):
+            self.assertIn(line, said)
+        # What failed is not told as proved.
+        self.assertIn(': ieee proved\n', err)
+        self.assertNotIn('failing proved', err)
         # Nothing is left that a later use would take for the library.
         self.called()
         self.assertEqual(self.check()[0], 0)
-        self.assertEqual(self.called(), ['check', 'staticlib', 'staticlib'])
+        self.assertEqual(self.called(), ['all', 'lib', 'lib'])
 
     def test_not_compiled(self):
         status, out, err = self.check(COMPILED='3')
         self.assertEqual((status, out), (2, ''))
-        self.assertIn("the library is not built: 'rt staticlib' ended with status 3; ", err)
+        self.assertIn("the library is not built: 'rt lib' ended with status 3; ", err)
 
     def test_not_linked(self):
         os.remove(os.path.join(self.bin, 'cc'))
@@ -202,7 +245,7 @@ Copy that one file here, to x86-64 Linux, and name the copy: VELTZUMA_LIBRARY=PA
         both = [subprocess.Popen(words, stdout=subprocess.PIPE, stderr=subprocess.PIPE, env=self.environment(SLEEP='1')) for _ in range(2)]
         told = [process.communicate() for process in both]
         self.assertEqual([process.returncode for process in both], [0, 0])
-        self.assertEqual(self.called(), ['check', 'staticlib', 'staticlib'])
+        self.assertEqual(self.called(), ['all', 'lib', 'lib'])
         self.assertEqual(sum(b'another run builds the library' in err for _, err in told), 1)
 
     def test_what_the_library_says_of_itself(self):
@@ -258,12 +301,12 @@ class Progress(Copy):
 class Stopped(Copy):
     """Whatever ends a first build ends all that it has started, and leaves nothing that a later use would take for the library."""
 
-    def begin(self, words, step, **env):
-        """A build that has come to a step that does not end."""
+    def begin(self, words, step, count=2, **env):
+        """A build that has come to a step that does not end, in so many processes."""
         process = subprocess.Popen(words, cwd=self.top, stdout=subprocess.PIPE, stderr=subprocess.PIPE, env=self.environment(HANG=step, **env), start_new_session=True,
                                    preexec_fn=lambda: [signal.signal(number, signal.SIG_DFL) for number in (signal.SIGINT, signal.SIGTERM, signal.SIGHUP)])
         self.addCleanup(process.kill)
-        self.wait_for(lambda: len(self.started()) == 2)
+        self.wait_for(lambda: len(self.started()) == count)
         for pid in self.started():
             self.assertTrue(os.path.exists(f'/proc/{pid}'))
         return process
@@ -298,7 +341,7 @@ class Stopped(Copy):
         status, _, err = self.check()
         self.assertEqual(status, 0, err)
         self.assertNotIn('another run', err)
-        self.assertEqual(self.called(), ['check', 'staticlib', 'staticlib'])
+        self.assertEqual(self.called(), ['all', 'lib', 'lib'])
 
     def last(self, process):
         out, err = process.communicate(timeout=20)
@@ -306,7 +349,7 @@ class Stopped(Copy):
 
     def test_by_each_signal(self):
         for number, status in ((signal.SIGINT, 130), (signal.SIGTERM, 143), (signal.SIGHUP, 129)):
-            process = self.begin([sys.executable, 'veltzuma', 'check', SAMPLE], 'check')
+            process = self.begin([sys.executable, 'veltzuma', 'check', SAMPLE], 'all')
             process.send_signal(number)
             self.assertEqual(self.last(process), (status, '', ['veltzuma: stopped; the library is not built', '']))
             self.afterwards()
@@ -315,9 +358,9 @@ class Stopped(Copy):
     def test_in_each_step(self):
         os.remove(os.path.join(self.bin, 'cc'))
         self.script('cc', RT.replace('case $1', f'exec {shutil.which("cc")} "$@"\ncase $1'))
-        for step in ('staticlib', '-shared'):
-            # Of the two archives each is begun once the other has told of its crates; here the first does not get so far.
-            process = self.begin([sys.executable, 'veltzuma', 'build'], step)
+        for step in ('lib', '-shared'):
+            # The two archives are begun together.
+            process = self.begin([sys.executable, 'veltzuma', 'build'], step, 4 if step == 'lib' else 2)
             process.send_signal(signal.SIGTERM)
             self.assertEqual(self.last(process), (143, '', ['veltzuma: stopped; the library is not built', '']))
             self.assertTrue(self.all_gone(), step)
@@ -325,14 +368,14 @@ class Stopped(Copy):
         self.assertEqual(self.tool('build')[0], 0)
 
     def test_what_does_not_end_when_asked(self):
-        process = self.begin([sys.executable, 'veltzuma', 'build'], 'check', STUBBORN='1')
+        process = self.begin([sys.executable, 'veltzuma', 'build'], 'all', STUBBORN='1')
         process.send_signal(signal.SIGTERM)
         self.assertEqual(self.last(process)[0], 143)
         self.afterwards()
 
     def test_by_a_kill(self):
         """The tool is not asked, and can say nothing; the lock is held until what it started has ended."""
-        process = self.begin([sys.executable, 'veltzuma', 'build'], 'check', STUBBORN='1')
+        process = self.begin([sys.executable, 'veltzuma', 'build'], 'all', STUBBORN='1')
         process.kill()
         self.assertEqual(self.last(process)[:2], (-signal.SIGKILL, ''))
         status, _, err = self.check()
@@ -340,7 +383,7 @@ class Stopped(Copy):
         self.assertIn('another run builds the library; waiting for it\n', err)
 
     def test_while_it_waits_for_another(self):
-        first = self.begin([sys.executable, 'veltzuma', 'build'], 'check')
+        first = self.begin([sys.executable, 'veltzuma', 'build'], 'all')
         for number, status in ((signal.SIGINT, 130), (signal.SIGTERM, 143)):
             second = subprocess.Popen([sys.executable, 'veltzuma', 'build'], cwd=self.top, stdout=subprocess.PIPE, stderr=subprocess.PIPE, env=self.environment(),
                                       preexec_fn=lambda: signal.signal(signal.SIGINT, signal.SIG_DFL))
@@ -354,7 +397,7 @@ class Stopped(Copy):
 
     def test_ignored_stays_ignored(self):
         self.script('nohup', f'#!{sys.executable}\nimport os, signal, sys\nsignal.signal(signal.SIGHUP, signal.SIG_IGN)\nos.execv(sys.executable, [sys.executable, *sys.argv[1:]])\n')
-        process = self.begin([os.path.join(self.bin, 'nohup'), 'veltzuma', 'build'], 'check')
+        process = self.begin([os.path.join(self.bin, 'nohup'), 'veltzuma', 'build'], 'all')
         process.send_signal(signal.SIGHUP)
         time.sleep(0.5)
         self.assertEqual([process.poll(), *map(self.gone, self.started())], [None, False, False])
@@ -366,7 +409,7 @@ class Stopped(Copy):
         """An interrupt of a Python program, which kills the tool a moment later; and an end of it, which does not tell the tool."""
         words = [sys.executable, '-B', '-c', 'import sys; sys.path[:0] = ["bindings/python"]; import veltzuma; veltzuma.load()']
         for number in (signal.SIGINT, signal.SIGTERM, signal.SIGKILL):
-            process = self.begin(words, 'check')
+            process = self.begin(words, 'all')
             process.send_signal(number)
             self.assertEqual(self.last(process)[0], -number)
             self.wait_for(self.all_gone, 10)
@@ -379,14 +422,14 @@ class Stopped(Copy):
             self.put('tools/' + step, '#!/bin/sh\n')
         for script in ('tests/run', 'examples/run.sh'):
             for number in (signal.SIGTERM, signal.SIGKILL):
-                process = self.begin([script], 'check')
+                process = self.begin([script], 'all')
                 process.send_signal(number)
                 process.communicate(timeout=20)
                 self.assertEqual(process.returncode, -number)
                 self.wait_for(self.all_gone, 10)
                 os.remove(self.folder + '/pids')
         # As a terminal does it: to all of them.
-        process = self.begin(['examples/run.sh'], 'check')
+        process = self.begin(['examples/run.sh'], 'all')
         os.killpg(process.pid, signal.SIGINT)
         process.communicate(timeout=20)
         self.assertIn(process.returncode, (130, -signal.SIGINT))
@@ -396,12 +439,12 @@ class Stopped(Copy):
         """In either step, under either shell, alone or as a terminal does it."""
         self.put('tests/run', '#!/bin/sh\n./veltzuma build\n')
         for shell in ('sh', 'bash'):
-            for step in ('ci', 'check'):
+            for step in ('ci', 'all'):
                 for number, status, send in ((signal.SIGINT, 130, os.killpg), (signal.SIGINT, 130, os.kill), (signal.SIGTERM, 143, os.kill), (signal.SIGHUP, 129, os.kill)):
                     process = self.begin([shell, '.ci/run'], step)
                     send(process.pid, number)
                     found, out, err = self.last(process)
-                    self.assertEqual((found, err[-2:], '3 passed' in out), (status, ['.ci/run: stopped', ''], step == 'check'), (shell, step, number))
+                    self.assertEqual((found, err[-2:], '3 passed' in out), (status, ['.ci/run: stopped', ''], step == 'all'), (shell, step, number))
                     self.assertTrue(self.all_gone(), (shell, step, number))
                     os.remove(self.folder + '/pids')
                 process = self.begin([shell, '.ci/run'], step)
@@ -412,16 +455,19 @@ class Stopped(Copy):
 
     def test_one_archive_fails(self):
         """Then the other is not compiled to its end."""
-        self.script('rt', RT.replace('[ "$2" != capi ] || sleep', '[ "$2" != capi_f32 ] || { while [ ! -s "$PIDS" ]; do sleep 0.1; done; exit 9; }; echo $$ >>"$PIDS"; sleep 60; sleep'))
+        self.script('rt', RT.replace('[ "$archive" != capi ] || sleep', '[ "$archive" != capi_f32 ] || { while [ ! -s "$PIDS" ]; do sleep 0.1; done; exit 9; }; echo $$ >>"$PIDS"; sleep 60; sleep'))
         began = time.monotonic()
         status, _, err = self.check()
         self.assertEqual((status, len(self.started()), self.all_gone()), (2, 1, True))
-        self.assertIn("the library is not built: 'rt staticlib' ended with status 9; ", err)
+        self.assertIn("the library is not built: 'rt lib' ended with status 9; ", err)
         self.assertLess(time.monotonic() - began, 30)
 
 
 class Gate(Copy):
     """.ci/run: the kit's gate, then the tests on what it proved; its last line is the kit's."""
+    OK = 'rt: ok; handles allowed: none; must-fail edits: 2 refused; and more\n'
+    # What the kit prints above its last line.
+    HEAD = 'jobs none\n' + OK
 
     def gate(self, **env):
         done = subprocess.run(['bash', '.ci/run'], cwd=self.top, stdout=subprocess.PIPE, stderr=subprocess.STDOUT, env=self.environment(**env), timeout=120)
@@ -430,37 +476,53 @@ class Gate(Copy):
     def test_steps(self):
         self.put('tests/run', '#!/bin/sh\necho tests >>"$CALLS"\npwd\necho told >&2\nexit 0\n')
         top = os.path.realpath(self.top)
-        self.assertEqual(self.gate(), (0, f'jobs 4\n3 passed, 0 failed\n{top}\ntold\n3 passed, 0 failed\n'))
+        self.assertEqual(self.gate(), (0, f'{self.HEAD}3 passed, 0 failed\n{top}\ntold\n3 passed, 0 failed\n'))
         self.assertEqual(self.called(), ['ci', 'tests'])
         # Under the other shell, from another folder, and with the jobs that are asked for.
         done = subprocess.run([os.path.join(self.top, '.ci', 'run')], cwd='/', stdout=subprocess.PIPE, stderr=subprocess.STDOUT, env=self.environment(RT_JOBS='2'))
-        self.assertEqual((done.returncode, done.stdout.decode()), (0, f'jobs 2\n3 passed, 0 failed\n{top}\ntold\n3 passed, 0 failed\n'))
+        self.assertEqual((done.returncode, done.stdout.decode()), (0, f'jobs 2\n{self.OK}3 passed, 0 failed\n{top}\ntold\n3 passed, 0 failed\n'))
         self.called()
         # A failing test: its status, and the kit's line is not the last.
         self.put('tests/run', '#!/bin/sh\necho one failed\nexit 3\n')
-        self.assertEqual(self.gate(), (3, 'jobs 4\n3 passed, 0 failed\none failed\n'))
+        self.assertEqual(self.gate(), (3, self.HEAD + '3 passed, 0 failed\none failed\n'))
         self.assertEqual(self.called(), ['ci'])
         os.remove(os.path.join(self.top, 'tests', 'run'))
         status, said = self.gate()
-        self.assertEqual((status, said.startswith('jobs 4\n3 passed, 0 failed\ntests/run: No such file'), said.count('\n')), (127, True, 3), said)
+        self.assertEqual((status, said.startswith(self.HEAD + '3 passed, 0 failed\ntests/run: No such file'), said.count('\n')), (127, True, 4), said)
 
     def test_what_is_not_proved(self):
         """By the kit's status, and by its last line; then no test is run."""
         self.put('tests/run', '#!/bin/sh\necho tests >>"$CALLS"\n')
-        said = ".ci/run: the last line of 'rt ci' is not 'N passed, 0 failed'\n"
-        for env, found in (({'GATE': '1'}, (1, 'jobs 4\n3 passed, 0 failed\n')), ({'GATE': '3', 'SAID': '2 passed, 1 failed\\n'}, (3, 'jobs 4\n2 passed, 1 failed\n')),
-                           ({'SAID': '2 passed, 1 failed\\n'}, (1, 'jobs 4\n2 passed, 1 failed\n' + said)), ({'SAID': ''}, (1, 'jobs 4\n' + said)),
-                           ({'SAID': '0 passed, 0 failed\\n'}, (1, 'jobs 4\n0 passed, 0 failed\n' + said)),
-                           ({'SAID': '3 passed, 0 failed, and more\\n'}, (1, 'jobs 4\n3 passed, 0 failed, and more\n' + said)),
-                           ({'SAID': '3 passed, 0 failed\\nmore\\n'}, (1, 'jobs 4\n3 passed, 0 failed\nmore\n' + said))):
+        head, said = self.HEAD, ".ci/run: the last line of 'rt ci' is not 'N passed, 0 failed'\n"
+        for env, found in (({'GATE': '1'}, (1, head + '3 passed, 0 failed\n')), ({'GATE': '3', 'SAID': '2 passed, 1 failed\\n'}, (3, head + '2 passed, 1 failed\n')),
+                           ({'SAID': '2 passed, 1 failed\\n'}, (1, head + '2 passed, 1 failed\n' + said)), ({'SAID': ''}, (1, head + said)),
+                           ({'SAID': '0 passed, 0 failed\\n'}, (1, head + '0 passed, 0 failed\n' + said)),
+                           ({'SAID': '3 passed, 0 failed, and more\\n'}, (1, head + '3 passed, 0 failed, and more\n' + said)),
+                           ({'SAID': '3 passed, 0 failed (a and the crates below alone: not the gate)\\n'},
+                            (1, head + '3 passed, 0 failed (a and the crates below alone: not the gate)\n' + said)),
+                           ({'SAID': '3 passed, 0 failed\\nmore\\n'}, (1, head + '3 passed, 0 failed\nmore\n' + said))):
             self.assertEqual(self.gate(**env), found)
             self.assertEqual(self.called(), ['ci'])
         # Nor does the line of a run before count.
         os.remove(os.path.join(self.bin, 'rt'))
         self.assertEqual(self.gate(), (127, 'rt: No such file or directory\n'))
 
+    def test_bad_edits(self):
+        """They fail nothing in the kit's own gate; by its line `rt: ok` they fail this one."""
+        self.put('tests/run', '#!/bin/sh\necho tests >>"$CALLS"\n')
+        bad = ".ci/run: some must-fail edits are bad, by the line 'rt: ok' of 'rt ci'\n"
+        for edits, said in (('; must-fail edits: 7 refused, 1 bad', bad), ('; must-fail edits: 190 refused, 3 of them only by a limit, 12 bad', bad),
+                            ('; must-fail edits: 0 refused, 1 bad', bad), ('; must-fail edits: 190 refused, 3 of them only by a limit', None), ('', None)):
+            ok = f'rt: ok; handles allowed: none{edits}; every proof and must-fail edit was done in this run\n'
+            self.assertEqual(self.gate(OK=ok.replace('\n', '\\n')), (1 if said else 0, f'jobs none\n{ok}3 passed, 0 failed\n{said or "3 passed, 0 failed" + chr(10)}'))
+            self.assertEqual(self.called(), ['ci'] if said else ['ci', 'tests'])
+        # Where there is no such line, nothing tells that none is bad.
+        for ok in ('', 'ok\\n', 'said: rt: ok\\n'):
+            self.assertEqual(self.gate(OK=ok), (1, 'jobs none\n' + ok.replace('\\n', '\n') + "3 passed, 0 failed\n.ci/run: 'rt ci' has no line 'rt: ok'\n"))
+            self.assertEqual(self.called(), ['ci'])
+
     def test_shows_as_it_comes(self):
-        self.script('rt', '#!/bin/sh\necho first\nread line <"$GO"\necho "$line"\necho "1 passed, 0 failed"\n')
+        self.script('rt', '#!/bin/sh\necho first\nread line <"$GO"\necho "$line"\necho "rt: ok"\necho "1 passed, 0 failed"\n')
         self.put('tests/run', '#!/bin/sh\n')
         go = os.path.join(self.folder, 'go')
         os.mkfifo(go)
@@ -471,7 +533,7 @@ class Gate(Copy):
         self.assertEqual(process.stdout.readline(), b'first\n')
         with open(go, 'w') as out:
             out.write('second\n')
-        self.assertEqual((process.communicate()[0], process.returncode), (b'second\n1 passed, 0 failed\n1 passed, 0 failed\n', 0))
+        self.assertEqual((process.communicate()[0], process.returncode), (b'second\nrt: ok\n1 passed, 0 failed\n1 passed, 0 failed\n', 0))
 
     def test_what_is_not_installed(self):
         for name in ('rustc', 'gcc', 'rt', 'python3'):
@@ -496,7 +558,7 @@ class Gate(Copy):
         self.put('tools/version', quiet)
         head += 'tests/run: the library, proved and built from these sources\n'
         status, said = self.run_tests(CHECKED='1')
-        self.assertEqual((status, said.startswith(head), "the library is not built: 'rt check' ended with status 1; " in said, 'examples' in said), (2, True, True, False))
+        self.assertEqual((status, said.startswith(head), "the library is not built: 'rt all' ended with status 1; " in said, 'examples' in said), (2, True, True, False))
         self.assertEqual(self.check()[0], 0)
         head += 'tests/run: examples/run.sh\n'
         self.put('examples/run.sh', '#!/bin/sh\nexit 5\n')
@@ -521,7 +583,7 @@ class Gate(Copy):
     def test_examples_stop_where_the_build_failed(self):
         done = subprocess.run(['examples/run.sh'], cwd=self.top, stdout=subprocess.PIPE, stderr=subprocess.PIPE, env=self.environment(CHECKED='1'))
         self.assertEqual((done.returncode, done.stdout), (2, b''))
-        self.assertRegex(done.stderr.decode().split('\n', 3)[-1].split('\n')[-2], "^the library is not built: 'rt check' ended with status 1; ")
+        self.assertRegex(done.stderr.decode().split('\n', 3)[-1].split('\n')[-2], "^the library is not built: 'rt all' ended with status 1; ")
         self.assertNotIn(b'gcc', done.stderr)
 
 
@@ -530,7 +592,7 @@ class Version(Copy):
     """VERSION is the one place, and every other has what it says."""
     PLACES = {'include/veltzuma.h': [r'header is of version (\S+)\.$', r'define VELTZUMA_VERSION (\S+)$'], 'bindings/python/veltzuma.py': [r"^VERSION = (\S+)$", r"^__version__ = '(\S+)'$"],
               'crates/capi/specs/Calls.antt': [r'^version = (\S+)$'], 'crates/capi/must-fail/version_before.edit': [r'^old: version = (\S+)$', r'^new: version = (\S+)$'],
-              'crates/capi/src/lib.rt': [r'r ≡ version ⌝ }\n{\n    (\S+)\n}$'], 'crates/capi_f32/src/lib.rt': [r'r ≡ version ⌝ }\n{\n    (\S+)\n}$'],
+              'crates/capi/src/lib.rt': [r'result ≡ version }\n{\n    (\S+)\n}$'], 'crates/capi_f32/src/lib.rt': [r'result ≡ version }\n{\n    (\S+)\n}$'],
               'examples/read.rs': [r'^const VERSION: u32 = (\S+);$'], 'reference/src/ours.rs': [r'^pub const VERSION: u32 = (\S+);$'],
               'README.md': [r'veltzuma_version\(\) }, (\S+)\);$'], 'docs/SPECIFICATION.md': [r'gives the version of the calls, (\S+), which']}
 

@@ -14,7 +14,7 @@ README, ARCHITECTURE, CHANGELOG = (text_of(os.path.join(TOP, *parts)) for parts 
 def listed():
     """The crates of crates.txt, each with those that it names."""
     lines = (line.partition(':') for line in text_of(os.path.join(TOP, 'crates.txt')).split('\n') if line and not line.startswith('#'))
-    return {name: names.split() for name, _, names in lines}
+    return {name.split()[0]: names.split() for name, _, names in lines}
 
 
 def source(crate):

@@ -12,6 +12,8 @@ WIDTHS = ('', '_f32')
 KINDS = ('regular', 'rectilinear')
 # On the way of the call, above counted_sums: each with the lines in which it may multiply. Without a product there is no such sum.
 ABOVE = {'shared_reduction': [], 'with_grad': [], **{f'{kind}_with_grad': ['base = base + o * s;'] for kind in KINDS}}
+# The crates of the calls for C: as they are, and as a static library exports them.
+FOR_C = ('capi', 'capi_c')
 # The functions that take the sums of the other calls.
 TAKING = ('dot4', 'reduce1', 'reduce2', 'reduce3', 'reduce4')
 
@@ -22,7 +24,18 @@ def code(text):
     """A source without its comments, its clauses, and what only they use."""
     text = re.sub(r'//[^\n]*', '', text)
     text = re.sub(r'^ghost use [^;]*;', '', text, flags=re.M)
-    return re.sub(r'\b(?:requires|ensures)\s*\{[^⌜{}]*⌜.*?⌝\s*\}', '', text, flags=re.S)
+    while found := re.search(r'\b(?:requires|ensures)\*?\s*(?:\w+\s*)?\{', text):
+        text = text[:found.start()] + text[closed(text, found.end()):]
+    return text
+
+
+def closed(text, at):
+    """Where that ends whose opening brace stands before this place."""
+    depth = 1
+    while depth:
+        depth += {'{': 1, '}': -1}.get(text[at], 0)
+        at += 1
+    return at
 
 
 @functools.lru_cache(maxsize=None)
@@ -31,11 +44,7 @@ def bodies(text):
     functions = {}
     for found in re.finditer(r'\bfn (\w+)\s*\(', text):
         begin = text.index('{', found.end())
-        depth, end = 1, begin + 1
-        while depth:
-            depth += {'{': 1, '}': -1}.get(text[end], 0)
-            end += 1
-        functions[found[1]] = text[begin:end]
+        functions[found[1]] = text[begin:closed(text, begin + 1)]
     return functions
 
 
@@ -44,7 +53,7 @@ class Source:
 
     def __init__(self, crate, folder):
         self.crate, self.code = crate, code('\n'.join(text_of(os.path.join(folder, name)) for name in sorted(os.listdir(folder))))
-        self.uses = {name: of for of, name in re.findall(r'\buse (\w+)::(\w+);', self.code)}
+        self.uses = {name: of for of, names in re.findall(r'\buse (\w+)::(\w+|\{[\w\s,]*\});', self.code) for name in re.findall(r'\w+', names)}
         self.functions = bodies(self.code)
 
     def named(self, function):
@@ -79,7 +88,7 @@ def faults(root):
     """What is not as it has to be in the sources of a repository."""
     sources, found = read(root), []
     for width in WIDTHS:
-        missing = [crate + width for crate in ['counted_sums', *ABOVE, 'capi'] if crate + width not in sources]
+        missing = [crate + width for crate in ['counted_sums', *ABOVE, *FOR_C] if crate + width not in sources]
         if missing:
             found += [f'there is no crate {crate}' for crate in missing]
             continue
@@ -120,11 +129,15 @@ def _above(sources, width):
     return found
 
 
+def _calls(kind, width):
+    return [(f'{kind}_with_grad{width}', 'interp_one_with_grad'), *((crate + width, f'veltzuma_{kind}_interp_one_with_grad{width}') for crate in FOR_C)]
+
+
 def _on_the_way(sources, width):
     """In whatever crate: from the call, in Rattle and for C, no function is come to that takes a sum, but sum4."""
     found, sum4 = [], ('counted_sums' + width, 'sum4')
     for kind in KINDS:
-        for crate, call in ((f'{kind}_with_grad{width}', 'interp_one_with_grad'), (f'capi{width}', f'veltzuma_{kind}_interp_one_with_grad{width}')):
+        for crate, call in _calls(kind, width):
             way = reached(sources, crate, call)
             if sum4 not in way:
                 found.append(f'{call} of {crate} does not come to sum4')
@@ -164,7 +177,7 @@ class Text(InFolder):
         for crate in ['counted_sums' + width for width in WIDTHS]:
             source = read(TOP)[crate]
             self.assertIn('taken: sums.taken + 1', source.functions['sum4'])
-            self.assertNotRegex(source.code, 'ensures|requires|⌜')
+            self.assertNotRegex(source.code, 'ensures|requires|≡')
 
     def test_the_counter(self):
         for width, sums in (('', 'Sums'), ('_f32', 'SumsF32')):
@@ -186,7 +199,7 @@ class Text(InFolder):
                 self.assertEqual(len(found), len(told), found)
             # Elsewhere than in the code it may be named.
             self.assertEqual(self.told(crate, more='// dot4(weights, vals) + 1; Sums { taken: 7 }\n'), [])
-            self.assertEqual(self.told(crate, ('⌜ sums .taken + 1 < 2 ^ 64 ⌝', '⌜\n        sums .taken + 1 + 1 < 2 ^ 64\n        × dot4( Sums { ⌝')), [])
+            self.assertEqual(self.told(crate, ('{ sums.taken + 1 < 2 ^ 64 }', '{\n        sums.taken + 1 + 1 < 2 ^ 64\n        × dot4( Sums { taken: 7 } ) }')), [])
 
     def test_above(self):
         for width, number, sums in (('', 'f64', 'Sums'), ('_f32', 'f32', 'SumsF32')):
@@ -207,7 +220,8 @@ class Text(InFolder):
     def test_anywhere(self):
         """The other crates may take sums, but not on the way of this call; and none makes a number."""
         for width, kind in ((width, kind) for width in WIDTHS for kind in KINDS):
-            calls = [(f'{kind}_with_grad{width}', 'interp_one_with_grad'), (f'capi{width}', f'veltzuma_{kind}_interp_one_with_grad{width}')]
+            calls = _calls(kind, width)
+            self.assertEqual([crate for crate, _ in calls], [f'{kind}_with_grad{width}', f'capi{width}', f'capi_c{width}'])
 
             def takes(name, crate, calls=calls):
                 return [f'{call} of {of} comes to {name} of {crate}, which takes a sum' for of, call in calls]
@@ -228,8 +242,8 @@ class Text(InFolder):
             self.assertEqual(found, [fault for call in calls for name in TAKING[1:] for fault in takes(name, f'reduction{width}', [call])])
             # For C, beside the call or in its place.
             found = self.told(f'{kind}_lent{width}', (f'{kind}_with_grad{width}::interp_one_with_grad(', f'{kind}{width}::interp_one('))
-            self.assertEqual(found[0], f'{calls[1][1]} of capi{width} does not come to sum4')
-            self.assertEqual(found[1:], [fault for name in TAKING[1:] for fault in takes(name, f'reduction{width}', calls[1:])])
+            self.assertEqual(found, [fault for crate, call in calls[1:] for fault in (f'{call} of {crate} does not come to sum4', *(
+                fault for name in TAKING[1:] for fault in takes(name, f'reduction{width}', [(crate, call)])))])
         for crate, sums in (('told', 'Sums'), ('capi_f32', 'SumsF32'), ('slices', 'Sums')):
             self.assertEqual(self.told(crate, more=f'\nfn made() -> {sums} {{\n    {sums} {{ taken: 9 }}\n}}\n'), [f'{crate}: it makes a Sums, or takes one apart'])
             self.assertEqual(self.told(crate, more=f'\nfn handed_on(sums: {sums}) -> {sums} {{\n    sums\n}}\n'), [])
@@ -242,7 +256,8 @@ class Text(InFolder):
             self.assertEqual(faults(self.folder), [f'there is no crate {crate}'])
             os.rename(kept, self.path(crate))
         found = self.told('regular_with_grad', ('pub fn interp_one_with_grad(', 'pub fn interp_one_with_slopes('))
-        self.assertEqual(found, ['interp_one_with_grad of regular_with_grad does not come to sum4', 'veltzuma_regular_interp_one_with_grad of capi does not come to sum4'])
+        self.assertEqual(found, ['interp_one_with_grad of regular_with_grad does not come to sum4', 'veltzuma_regular_interp_one_with_grad of capi does not come to sum4',
+                                 'veltzuma_regular_interp_one_with_grad of capi_c does not come to sum4'])
         self.assertEqual(faults(self.folder), [])
 
 

@@ -12,7 +12,8 @@ import time
 from . import apart
 
 TOP = os.path.dirname(os.path.dirname(os.path.dirname(os.path.abspath(__file__))))
-ARCHIVES = ('capi', 'capi_f32')
+# The archives by the name that a user links, each with the static library that writes it: that of the crate of this name, for C.
+ARCHIVES = {'capi': 'capi_c', 'capi_f32': 'capi_c_f32'}
 VARIABLE = 'VELTZUMA_LIBRARY'
 # Seconds after which it is said again what is being done, where no terminal shows the time as it passes.
 EVERY = 15
@@ -39,8 +40,9 @@ def _needed():
         for line in lines:
             name, colon, rest = line.partition('#')[0].partition(':')
             if colon:
-                named[name.strip()] = rest.split()
-    needed, left = set(), list(ARCHIVES)
+                # After the name may stand what the crate is, as `staticlib`.
+                named[name.split()[0]] = rest.split()
+    needed, left = set(), list(ARCHIVES.values())
     while left:
         name = left.pop()
         if name in named and name not in needed:
@@ -49,12 +51,22 @@ def _needed():
     return sorted(needed)
 
 
+def _folder(crate):
+    return os.path.join(TOP, 'crates', crate)
+
+
+def _at_once():
+    """How many crates are proved at a time: one for each processor, and one for each 4 GB of memory, which is what the proof of one may take."""
+    memory = os.sysconf('SC_PHYS_PAGES') * os.sysconf('SC_PAGE_SIZE')
+    return max(1, min(len(os.sched_getaffinity(0)), memory >> 32))
+
+
 def sum_of_sources():
     """A sum of every source, specification and proof of those crates."""
     whole = hashlib.sha256()
     for crate in _needed():
         for part in ('src', 'specs', 'proofs'):
-            for folder, folders, names in os.walk(os.path.join(TOP, 'crates', crate, part)):
+            for folder, folders, names in os.walk(os.path.join(_folder(crate), part)):
                 folders.sort()
                 for name in sorted(names):
                     path = os.path.join(folder, name)
@@ -177,25 +189,24 @@ class _Work:
         self.runs = []
 
     def build(self, folder, compiler, sources, kit):
-        # `rt staticlib` proves one crate after the other; `rt check` proves as many at a time as there are processors.
-        names = [name for name in _needed() if name != ARCHIVES[-1]]
+        # `rt lib` proves one crate after the other; `rt all check`, in the folder of a crate, proves it and those below it, as many at a time as it is told.
+        # The last archive's crate stands on all but the static library of the other.
+        first, last = ARCHIVES.values()
+        names = [name for name in _needed() if name != first]
         _say(f'proving {len(names)} crates')
-        check = self.start('rt', 'check', *names)
+        check = self.start('rt', 'all', 'check', '--jobs', str(_at_once()), within=last)
         self.until(lambda: check.ended, lambda: f'proving, {check.proved} of {len(names)} crates done',
                    lambda text: f'{check.proved} of {len(names)}: {text}')
-        # Both at a time; but no two runs may look at the crates below at once. The last archive's crate stands on all the others.
+        # Both are started; where the crates below are the same, the kit has one wait for the other.
         self.say(f'compiling {" and ".join(ARCHIVES)}')
-        left = {}
-        for archive in reversed(ARCHIVES):
-            run = left[archive] = self.start('rt', 'staticlib', archive)
-            self.until(lambda: run.ended or run.proved >= len(names), lambda: f'compiling {" and ".join(ARCHIVES)}')
+        left = {archive: self.start('rt', 'lib', within=ARCHIVES[archive]) for archive in reversed(ARCHIVES)}
         while left:
             self.until(lambda: any(run.ended for run in left.values()), lambda: f'compiling {" and ".join(sorted(left))}')
             for archive in [archive for archive, run in left.items() if run.ended]:
                 del left[archive]
                 self.say(f'{archive} is compiled' + (f', {" and ".join(sorted(left))} is left' if left else ''))
-        for archive in ARCHIVES:
-            shutil.copy(os.path.join(TOP, 'target', 'staticlib', f'lib{archive}.a'), folder)
+        for archive, crate in ARCHIVES.items():
+            shutil.copy(os.path.join(_folder(crate), 'out', f'lib{crate}.a'), os.path.join(folder, f'lib{archive}.a'))
         self.say('linking')
         self.link(folder, compiler, f'commit {commit()}\nkit {kit}\nsources {sources}\n')
         _say(f'built in {_clock(self.begin)} min')
@@ -212,8 +223,8 @@ class _Work:
         self.until(lambda: run.ended, lambda: 'linking')
         os.replace(unfinished, os.path.join(folder, 'libveltzuma.so'))
 
-    def start(self, *words):
-        run = _Run(words, self.commands.start(words, cwd=TOP, stdout=subprocess.PIPE, stderr=subprocess.STDOUT, stdin=subprocess.DEVNULL))
+    def start(self, *words, within=None):
+        run = _Run(words, self.commands.start(words, cwd=_folder(within) if within else TOP, stdout=subprocess.PIPE, stderr=subprocess.STDOUT, stdin=subprocess.DEVNULL))
         self.runs.append(run)
         return run
 
@@ -247,14 +258,23 @@ class _Run:
 
     def __init__(self, words, process):
         self.words, self.process, self.rest, self.proved, self.ended = words, process, b'', 0, False
+        # The crate that it tells of, until it is counted, and whether something was said of it.
+        self.told, self.more = None, False
 
     def hear(self, part):
-        """The crates that it tells of, one after the other."""
+        """The crates that it tells of as proved, one after the other. What there is to say of a crate stands below a line `== NAME`: a line `logic=proved ..`, or
+        nothing, where it was proved before; what stands below `== summary` is of no crate."""
         *lines, self.rest = (self.rest + part).split(b'\n')
         for line in lines:
-            if line.startswith(b'rt: ') and b' proved (' in line:
+            begins = line.startswith(b'== ')
+            if self.told and (line.startswith(b'logic=proved ') or (begins and not self.more)):
                 self.proved += 1
-                yield line[4:].decode('utf-8', 'replace').strip()
+                yield f'{self.told} proved'
+                self.told = None
+            if begins:
+                self.told, self.more = None if line == b'== summary' else line[3:].decode('utf-8', 'replace'), False
+            elif not (self.told and line.startswith(f'rt: {self.told}: begins with '.encode())):
+                self.more = True
 
 
 def _clock(begin):
