@@ -8,11 +8,11 @@ use Rattle.regular_query.specs.Grid.{axes_in}
 use Rattle.regular_batch.proofs.fill.Given as goal
 
 abbrev pub invariant-loop-i : goal.invariant-loop-i
-invariant-loop-i l = (l.i ≤ l.initial.out)
-    × (l.initial.out ≡ length l.count)
-    × (length l.out ≡ l.initial.out)
-    × (length l.queries ≡ l.axis_count * l.initial.out)
-    × Filling binary64 (axes_in binary64 l.mode l.axis_count l.axes) l.vals l.queries l.quantity l.initial.out l.count l.i l.out
+invariant-loop-i l = (l.i ≤ l.count)
+    × (l.count ≡ length l.initial.out)
+    × (length l.out ≡ l.count)
+    × (length l.queries ≡ l.axis_count * l.count)
+    × Filling binary64 (axes_in binary64 l.mode l.axis_count l.axes) l.vals l.queries l.quantity l.count l.initial.out l.i l.out
 
 abbrev pub decreases-loop-i : goal.decreases-loop-i
-decreases-loop-i l = l.initial.out - l.i
+decreases-loop-i l = l.count - l.i

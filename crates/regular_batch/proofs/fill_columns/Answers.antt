@@ -34,7 +34,7 @@ fill-outcome-requires c =
 pub loop-d-preserved : goal.loop-d-preserved
 loop-d-preserved c =
     let fill = c.fill-outcome in
-    let next = columns-next c.loop-d.invariant.1 c.loop-d-test.true _ fill.new.1.1.1.1.1.1.1.0 fill.ensures.value fill.ensures.out_after in
+    let next = columns-next c.loop-d.invariant.1 c.loop-d-test.true _ fill.new.out fill.ensures.value fill.ensures.out_after in
     (next.to.same_length, next)
 
 pub shape_of-out : goal.shape_of-out

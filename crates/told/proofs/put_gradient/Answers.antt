@@ -14,7 +14,7 @@ pub loop-i-preserved : goal.loop-i-preserved
 loop-i-preserved c =
     let l = c.loop-i in
     let a = c.args in
-    (omega arith, l.invariant.1, l.invariant.2, c.put_float.auto.0 ∙ l.invariant.3, over-next a.components a.gradient.now nan l.i (omega arith) l.invariant.4 refl c.put_float.ensures)
+    (omega arith, l.invariant.1, l.invariant.2, c.put_float.auto.out ∙ l.invariant.3, over-next a.components a.gradient.now nan l.i (omega arith) l.invariant.4 refl c.put_float.ensures)
 
 pub returns : goal.returns
 returns c =

@@ -6,7 +6,7 @@ use Rattle.told.specs.Told.{over}
 use Rattle.told.proofs.put_gradient.Given as goal
 
 abbrev pub invariant-loop-i : goal.invariant-loop-i
-invariant-loop-i l = (l.i ≤ l.initial.gradient) × (l.initial.gradient ≤ 4) × (length l.stop ≡ 4) × (length l.gradient ≡ length l.components) × (l.gradient ≡ over (take l.i l.stop) l.components)
+invariant-loop-i l = (l.i ≤ l.stop) × (l.stop ≤ 4) × (length l.components ≡ 4) × (length l.gradient ≡ length l.initial.gradient) × (l.gradient ≡ over (take l.i l.components) l.initial.gradient)
 
 abbrev pub decreases-loop-i : goal.decreases-loop-i
-decreases-loop-i l = l.initial.gradient - l.i
+decreases-loop-i l = l.stop - l.i

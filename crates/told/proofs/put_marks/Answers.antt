@@ -19,7 +19,7 @@ loop-i-preserved c =
       omega arith,
       l.invariant.1,
       l.invariant.2,
-      c.put_byte.auto.0 ∙ l.invariant.3,
+      c.put_byte.auto.out ∙ l.invariant.3,
       over-next (mark_numbers a.pairs) a.marks.now 0 l.i (omega arith) l.invariant.4
           (c.mark_number.ensures ∙ sym (get_or-map mark_number a.pairs l.i unmarked))
           c.put_byte.ensures,

@@ -20,7 +20,7 @@ loop-i-preserved c =
     let too : length (class_numbers a.places) ≡ 4 = length-map a.places (λ (p : Place). class_number p.class) ∙ l.invariant.2 in
     let origin = c.put_count in
     let class = c.put_byte in
-    (omega arith, l.invariant.1, l.invariant.2, origin.auto.0 ∙ l.invariant.3, class.auto.0 ∙ l.invariant.4, over-next (origins_at a.places) a.origins.now 0 l.i (omega arith) l.invariant.5 (sym (get_or-map (λ (p : Place). p.origin) a.places l.i nowhere)) origin.ensures, over-next (class_numbers a.places) a.classes.now 0 l.i (omega arith) l.invariant.6 (c.class_number.ensures ∙ sym (get_or-map (λ (p : Place). class_number p.class) a.places l.i nowhere)) class.ensures)
+    (omega arith, l.invariant.1, l.invariant.2, origin.auto.out ∙ l.invariant.3, class.auto.out ∙ l.invariant.4, over-next (origins_at a.places) a.origins.now 0 l.i (omega arith) l.invariant.5 (sym (get_or-map (λ (p : Place). p.origin) a.places l.i nowhere)) origin.ensures, over-next (class_numbers a.places) a.classes.now 0 l.i (omega arith) l.invariant.6 (c.class_number.ensures ∙ sym (get_or-map (λ (p : Place). class_number p.class) a.places l.i nowhere)) class.ensures)
 
 pub returns : goal.returns
 returns c =

@@ -6,7 +6,7 @@ use Rattle.told.specs.Told.{over, origins_at, class_numbers}
 use Rattle.told.proofs.put_places.Given as goal
 
 abbrev pub invariant-loop-i : goal.invariant-loop-i
-invariant-loop-i l = (l.i ≤ l.initial.classes) × (l.initial.classes ≤ 4) × (length l.initial.origins ≡ 4) × (length l.origins ≡ length l.places) × (length l.classes ≡ length l.stop) × (l.origins ≡ over (take l.i (origins_at l.initial.origins)) l.places) × (l.classes ≡ over (take l.i (class_numbers l.initial.origins)) l.stop)
+invariant-loop-i l = (l.i ≤ l.stop) × (l.stop ≤ 4) × (length l.places ≡ 4) × (length l.origins ≡ length l.initial.origins) × (length l.classes ≡ length l.initial.classes) × (l.origins ≡ over (take l.i (origins_at l.places)) l.initial.origins) × (l.classes ≡ over (take l.i (class_numbers l.places)) l.initial.classes)
 
 abbrev pub decreases-loop-i : goal.decreases-loop-i
-decreases-loop-i l = l.initial.classes - l.i
+decreases-loop-i l = l.stop - l.i
