@@ -2,15 +2,14 @@
 // What the test programs share: words and floats of bytes, the parts of an answer as words, and the tally of comparisons.
 #![tactic(auto)]
 
-ghost use Rattle.std.specs.Prelude.{◌≡◌, ◌+◌, ◌*◌, ◌%◌, ◌≤◌, ◌<◌, length, get_or};
+ghost use Rattle.std.specs.Prelude.{◌%◌, ◌≡◌, ◌*◌, ◌≤◌, length, from_bits, slice_index_or, to_bits};
 ghost use Rattle.std.specs.Float.{nan, binary32};
-ghost use Rattle.std.specs.Float.Ieee.{of_bits, to_bits};
 
 use harness_words::word_at;
 
 // The float of a bit pattern, the low half of a word: every NaN pattern is the NaN.
 pub fn float_of(n: u64) -> f32
-    ensures { result ≡ of_bits binary32 (n % 4294967296) }
+    ensures { result ≡ from_bits binary32 (n % 4294967296) }
 {
     let low: u32 = (n % 0x1_0000_0000) as u32;
     if 0x7F80_0000 < low % 0x8000_0000 {
@@ -48,7 +47,7 @@ pub fn decode(bytes: &[u8], words: &mut [u64], floats: &mut [f32], count: usize)
 
 // Float `at`, and the NaN past the end.
 pub fn float(floats: &[f32], at: usize) -> f32
-    ensures { result ≡ get_or floats.now at nan }
+    ensures { result ≡ slice_index_or floats.now at nan }
 {
     if at < floats.len() {
         floats[at]

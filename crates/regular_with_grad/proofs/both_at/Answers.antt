@@ -7,6 +7,8 @@ use native.Mathlib.Omega.{arith}
 use lib.ListN.{length, get_or, length-map}
 use lib.Ieee.{Float, nan, binary64}
 use Rattle.multicubic.specs.declared.Answer.{Answer}
+use Rattle.multicubic.specs.declared.Axis.{Axis}
+use Rattle.multicubic.specs.declared.EdgeMode.{EdgeMode}
 use Rattle.multicubic.specs.declared.Loc.TheVariants.{At}
 use Rattle.multicubic.specs.declared.Marks.{Marks}
 use Rattle.multicubic.specs.declared.Outcome.{Outcome}
@@ -20,6 +22,7 @@ use Rattle.grid.specs.Query.{GridAxis, counts_of, places, find, at, origins_of}
 use Rattle.grid.specs.Internal.{no_axis as no_grid_axis}
 use Rattle.grid.proofs.Edges.{own-loc, own_row}
 use Rattle.grid.proofs.Fit.{Fit}
+use Rattle.regular_query.specs.Internal.{Ready}
 use Rattle.regular_query.specs.Grid.{grid_axis, axis_in, axes_in}
 use Rattle.regular_query.proofs.Calls.{no_axis}
 use Rattle.regular_query.proofs.Locating.{taken_of, fit, spaced-by, long-at, spanned, axis-is, origin-below}
@@ -28,32 +31,21 @@ use Rattle.shared_sums.proofs.Both.{both-none, both-refused, both_small, both-tu
 use Rattle.regular_with_grad.proofs.both_at.Goals as goal
 use Rattle.regular_with_grad.proofs.both_at.Goals.{After-get_loc-loc, After-row_at-in-loop-axis, At-loop-axis}
 
--- what holds at the loop's head: the grid's axes fit, and the axis in hand is the grid's
-module _ (c : At-loop-axis) where
-  -- the grid's axes
-  abbrev gs : List GridAxis
-  gs = axes_in binary64 c.args.mode c.args.axis_count c.args.axes
+-- the grid's axes fit
+fits : (mode : EdgeMode) {n : ℕ} {axes : List Axis} {values : ℕ} {strides : List ℕ} → length axes ≡ 4 → Ready n axes values strides → Fit n (axes_in binary64 mode n axes) values
+fits mode four ready = fit binary64 mode four (taken_of ready)
 
-  fits : Fit c.args.axis_count gs (length c.args.vals.now)
-  fits = fit binary64 c.args.mode c.loop-axis.invariant.2 (taken_of c.loop-axis.invariant.4)
+-- the axis in hand, on either line and in the grid's setting
+abbrev line : List Axis → ℕ → Bool → GridAxis
+line axes axis straight = grid_axis binary64 straight (get_or axes axis no_axis)
 
-  abbrev given : Float
-  given = get_or c.args.x c.loop-axis.axis nan
+abbrev own : EdgeMode → List Axis → ℕ → GridAxis
+own mode axes axis = axis_in binary64 mode (get_or axes axis no_axis)
 
-  -- the axis in hand, on either line and in the grid's setting
-  abbrev line : Bool → GridAxis
-  line straight = grid_axis binary64 straight (get_or c.args.axes c.loop-axis.axis no_axis)
-
-  abbrev own : GridAxis
-  own = axis_in binary64 c.args.mode (get_or c.args.axes c.loop-axis.axis no_axis)
-
-  module _ (h : c.loop-axis.axis < c.args.axis_count) where
-    same : own ≡ get_or gs c.loop-axis.axis no_grid_axis
-    same = axis-is binary64 c.args.mode c.loop-axis.invariant.2 (taken_of c.loop-axis.invariant.4) c.loop-axis.axis h
-
-    -- the ends' nodes can be had
-    ends : (4 ≤ (get_or c.args.axes c.loop-axis.axis no_axis).count) × ((get_or c.args.axes c.loop-axis.axis no_axis).count ≤ 4096)
-    ends = spanned binary64 c.args.mode c.loop-axis.invariant.2 (taken_of c.loop-axis.invariant.4) c.loop-axis.axis h
+-- it is the grid's
+same : (mode : EdgeMode) {n : ℕ} {axes : List Axis} {values : ℕ} {strides : List ℕ} → length axes ≡ 4 → Ready n axes values strides → (axis : ℕ) → axis < n
+    → own mode axes axis ≡ get_or (axes_in binary64 mode n axes) axis no_grid_axis
+same mode four ready axis h = axis-is binary64 mode four (taken_of ready) axis h
 
 pub loop-axis-init : goal.loop-axis-init
 loop-axis-init c =
@@ -64,31 +56,29 @@ loop-axis-init c =
     (omega arith, f.few, four, s.well_formed.1.1.1.1.1.0.1.0.1, s.requires, c.linearize_extrapolation-straight.ensures, both-none _ _ _ _ _ _ s.well_formed.1.1.1.1.0.1.0.1 spaced refl refl)
 
 pub replaced_at-replaced-requires : goal.replaced_at-replaced-requires
-replaced_at-replaced-requires c = ends (goal.at.replaced_at-replaced-requires c).At-loop-axis c.loop-axis-test.true
+replaced_at-replaced-requires c = spanned binary64 c.args.mode c.loop-axis.invariant.2 (taken_of c.loop-axis.invariant.4) c.loop-axis.axis c.loop-axis-test.true
 
 pub hold-used-requires : goal.hold-used-requires
-hold-used-requires c = ends (goal.at.hold-used-requires c).At-loop-axis c.loop-axis-test.true
+hold-used-requires c = spanned binary64 c.args.mode c.loop-axis.invariant.2 (taken_of c.loop-axis.invariant.4) c.loop-axis.axis c.loop-axis-test.true
 
 pub get_loc-loc-requires : goal.get_loc-loc-requires
 get_loc-loc-requires c =
     let l = c in
-    long-at binary64 (s (goal.at.get_loc-loc-requires c).At-loop-axis).args.mode l.loop-axis.invariant.2 (taken_of l.loop-axis.invariant.4) l.loop-axis.axis c.loop-axis-test.true
+    long-at binary64 c.args.mode l.loop-axis.invariant.2 (taken_of l.loop-axis.invariant.4) l.loop-axis.axis c.loop-axis-test.true
 
 -- the place on the axis in hand has been asked for: it is what the grid's axis has, and where it is none, the query is refused
 module _ (c : After-get_loc-loc) where
-  abbrev head : At-loop-axis
-  head = c.before.before.before.before.before
-
-  abbrev left : head.loop-axis.axis < (s head).args.axis_count
-  left = c.loop-axis-test.true
-
-  located : c.get_loc-loc.result ≡ (own head).loc (given head)
-  located = own-loc (s head).args.mode (line head) (given head) _ _ c.replaced_at-replaced.ensures c.hold-used.ensures _ c.get_loc-loc.ensures.value
+  located : c.get_loc-loc.result ≡ (own c.args.mode c.args.axes c.loop-axis.axis).loc (get_or c.args.x c.loop-axis.axis nan)
+  located =
+      own-loc c.args.mode (line c.args.axes c.loop-axis.axis) (get_or c.args.x c.loop-axis.axis nan) _ _
+      c.replaced_at-replaced.ensures c.hold-used.ensures _ c.get_loc-loc.ensures.value
 
   turned-away : Unplaced c.get_loc-loc.result → {o : Outcome} {answer : Answer} {gradient : List Float} {marks : List Marks} {taken : ℕ}
-      → o ≡ place_outcome 0 head.loop-axis.axis c.get_loc-loc.result → RefusedBy o answer gradient marks taken
-      → BothTo binary64 (s head).args.axis_count (gs head) (s head).args.vals.now (at (s head).args.x) answer gradient marks taken
-  turned-away u e r = both-refused (fits head) head.loop-axis.invariant.6 left (own head) (same head left) binary64 (s head).args.vals.now located u e r
+      → o ≡ place_outcome 0 c.loop-axis.axis c.get_loc-loc.result → RefusedBy o answer gradient marks taken
+      → BothTo binary64 c.args.axis_count (axes_in binary64 c.args.mode c.args.axis_count c.args.axes) c.args.vals.now (at c.args.x) answer gradient marks taken
+  turned-away u e r =
+      both-refused (fits c.args.mode c.loop-axis.invariant.2 c.loop-axis.invariant.4) c.loop-axis.invariant.6 c.loop-axis-test.true (own c.args.mode c.args.axes c.loop-axis.axis)
+      (same c.args.mode c.loop-axis.invariant.2 c.loop-axis.invariant.4 c.loop-axis.axis c.loop-axis-test.true) binary64 c.args.vals.now located u e r
 
 pub returns-in-NotANumber : goal.returns-in-NotANumber
 returns-in-NotANumber c =
@@ -102,47 +92,39 @@ returns-in-Unplaceable c =
 
 pub row_at-requires : goal.row_at-requires
 row_at-requires c =
-    let t = c in
-    origin-below binary64 (s (head (goal.at.row_at-requires c).After-get_loc-loc)).args.mode (head (goal.at.row_at-requires c).After-get_loc-loc).loop-axis.invariant.2 (taken_of (head (goal.at.row_at-requires c).After-get_loc-loc).loop-axis.invariant.4) (head (goal.at.row_at-requires c).After-get_loc-loc).loop-axis.axis (left (goal.at.row_at-requires c).After-get_loc-loc)
-    (straight_of (s (head (goal.at.row_at-requires c).After-get_loc-loc)).args.mode) _ _ (sym c.in-At.is ∙ t.get_loc-loc.ensures.value)
+    origin-below binary64 c.args.mode c.loop-axis.invariant.2 (taken_of c.loop-axis.invariant.4) c.loop-axis.axis c.loop-axis-test.true
+    (straight_of c.args.mode) _ _ (sym c.in-At.is ∙ c.get_loc-loc.ensures.value)
 
 pub row_at-requires-in-loop-axis : goal.row_at-requires-in-loop-axis
 row_at-requires-in-loop-axis c =
-    let t = c in
-    origin-below binary64 (s (head (goal.at.row_at-requires-in-loop-axis c).After-get_loc-loc)).args.mode (head (goal.at.row_at-requires-in-loop-axis c).After-get_loc-loc).loop-axis.invariant.2 (taken_of (head (goal.at.row_at-requires-in-loop-axis c).After-get_loc-loc).loop-axis.invariant.4) (head (goal.at.row_at-requires-in-loop-axis c).After-get_loc-loc).loop-axis.axis (left (goal.at.row_at-requires-in-loop-axis c).After-get_loc-loc)
-    (straight_of (s (head (goal.at.row_at-requires-in-loop-axis c).After-get_loc-loc)).args.mode) _ _ (sym c.in-At.is ∙ t.get_loc-loc.ensures.value)
+    origin-below binary64 c.args.mode c.loop-axis.invariant.2 (taken_of c.loop-axis.invariant.4) c.loop-axis.axis c.loop-axis-test.true
+    (straight_of c.args.mode) _ _ (sym c.in-At.is ∙ c.get_loc-loc.ensures.value)
 
--- the axis in hand has placed the query
-module _ (c : After-row_at-in-loop-axis) where
-  abbrev turned : After-get_loc-loc
-  turned = c.before.before.before.before.before
-
-  abbrev place : Place
-  place = c.in-At.place
-
-  found : At place ≡ (own (head turned)).loc (given (head turned))
-  found = sym c.in-At.is ∙ located turned
-
-  -- the index of the block's first value stays small
-  small : (head turned).loop-axis.base + place.origin * get_or (s (head turned)).args.strides (head turned).loop-axis.axis 0 < 1048576
-  small = both_small (fits (head turned)) (head turned).loop-axis.invariant.6 (left turned) (own (head turned)) (same (head turned) (left turned)) place found
+-- the axis in hand has placed the query: the index of the block's first value stays small
+small : (c : After-row_at-in-loop-axis) → At c.in-At.place ≡ (own c.args.mode c.args.axes c.loop-axis.axis).loc (get_or c.args.x c.loop-axis.axis nan)
+    → c.loop-axis.base + c.in-At.place.origin * get_or c.args.strides c.loop-axis.axis 0 < 1048576
+small c found =
+    both_small (fits c.args.mode c.loop-axis.invariant.2 c.loop-axis.invariant.4) c.loop-axis.invariant.6 c.loop-axis-test.true (own c.args.mode c.args.axes c.loop-axis.axis)
+    (same c.args.mode c.loop-axis.invariant.2 c.loop-axis.invariant.4 c.loop-axis.axis c.loop-axis-test.true) c.in-At.place found
 
 pub loop-axis-preserved : goal.loop-axis-preserved
 loop-axis-preserved c =
-    let t = turned c in
-    let l = head t in
-    let row = own_row (s l).args.mode (line l) (given l) _ _ t.replaced_at-replaced.ensures t.hold-used.ensures _ l.loop-axis.invariant.5 in
-    let next = both-turn (fits l) l.loop-axis.invariant.6 (left t) (own l) (same l (left t)) _ (found c) _ _
-    (row _ (place c) false c.row_at.ensures) (row _ (place c) true c.row_at-in-loop-axis.ensures) in
-    (omega (arith, left t), l.loop-axis.invariant.1, l.loop-axis.invariant.2, l.loop-axis.invariant.3, l.loop-axis.invariant.4, l.loop-axis.invariant.5, next)
+    let g = (get_or c.args.x c.loop-axis.axis nan) in
+    let row = own_row c.args.mode (line c.args.axes c.loop-axis.axis) g _ _ c.replaced_at-replaced.ensures c.hold-used.ensures _ c.loop-axis.invariant.5 in
+    let found = sym c.in-At.is ∙ located (goal.at.loop-axis-preserved c).After-get_loc-loc in
+    let next = both-turn (fits c.args.mode c.loop-axis.invariant.2 c.loop-axis.invariant.4) c.loop-axis.invariant.6 c.loop-axis-test.true (own c.args.mode c.args.axes c.loop-axis.axis)
+    (same c.args.mode c.loop-axis.invariant.2 c.loop-axis.invariant.4 c.loop-axis.axis c.loop-axis-test.true) _ found _ _
+    (row _ c.in-At.place false c.row_at.ensures) (row _ c.in-At.place true c.row_at-in-loop-axis.ensures) in
+    (omega (arith, c.loop-axis-test.true), c.loop-axis.invariant.1, c.loop-axis.invariant.2, c.loop-axis.invariant.3, c.loop-axis.invariant.4, c.loop-axis.invariant.5, next)
 
 -- clause 5.5, at the base that the reduction gets: the way of its reads leads to the sum of (origin + j) × stride
-read_here : (c : At-loop-axis) → (s c).args.axis_count ≤ c.loop-axis.axis → (ps : List Placed) → find 0 (gs c) (at (s c).args.x) ≡ places ps → (js : List ℕ) (read : ℕ)
-    → Reads (s c).args.axis_count c.loop-axis.base (s c).args.strides js read → read ≡ offset (shifted (origins_of ps) js) (strides_of (counts_of (gs c)))
-read_here c h = both_read (fits c) c.loop-axis.invariant.6 h
+read_here : (c : At-loop-axis) → c.args.axis_count ≤ c.loop-axis.axis → (ps : List Placed) → find 0 (axes_in binary64 c.args.mode c.args.axis_count c.args.axes) (at c.args.x) ≡ places ps
+    → (js : List ℕ) (read : ℕ) → Reads c.args.axis_count c.loop-axis.base c.args.strides js read
+    → read ≡ offset (shifted (origins_of ps) js) (strides_of (counts_of (axes_in binary64 c.args.mode c.args.axis_count c.args.axes)))
+read_here c h = both_read (fits c.args.mode c.loop-axis.invariant.2 c.loop-axis.invariant.4) c.loop-axis.invariant.6 h
 
 pub reduce_shared-shared-requires : goal.reduce_shared-shared-requires
-reduce_shared-shared-requires c = both-room (fits (goal.at.reduce_shared-shared-requires c).At-loop-axis) c.loop-axis.invariant.6 c.loop-axis-test.false
+reduce_shared-shared-requires c = both-room (fits c.args.mode c.loop-axis.invariant.2 c.loop-axis.invariant.4) c.loop-axis.invariant.6 c.loop-axis-test.false
 
 pub marks_of-marks-requires : goal.marks_of-marks-requires
 marks_of-marks-requires c = λ e. taken_of c.loop-axis.invariant.4
@@ -151,12 +133,16 @@ pub returns : goal.returns
 returns c =
     let l = c in
     let r = c.reduce_shared-shared in
-    let long : length r.result.gradient ≡ 4 = sym (length-map r.result.gradient _) ∙ r.type_inv.1.1.1.0.1.0.1 in
-    both-done (fits (goal.at.returns c).At-loop-axis) l.loop-axis.invariant.6 c.loop-axis-test.false binary64 (s (goal.at.returns c).At-loop-axis).args.vals.now long r.ensures.reduced
-    (c.marks_of-marks.ensures (s (goal.at.returns c).At-loop-axis).args.mode) r.ensures.taken_value
+    let long : length r.result.gradient ≡ 4 = r.type_inv.1.1.1.0.1.0.1 in
+    both-done (fits c.args.mode c.loop-axis.invariant.2 c.loop-axis.invariant.4) l.loop-axis.invariant.6 c.loop-axis-test.false binary64 c.args.vals.now long r.ensures.reduced
+    (c.marks_of-marks.ensures c.args.mode) r.ensures.taken_value
 
 pub overflow_mul-base : goal.overflow_mul-base
-overflow_mul-base c = omega (arith, small c)
+overflow_mul-base c =
+    let found = sym c.in-At.is ∙ located (goal.at.overflow_mul-base c).After-get_loc-loc in
+    omega (arith, small (goal.at.overflow_mul-base c).After-row_at-in-loop-axis found)
 
 pub overflow_add-base : goal.overflow_add-base
-overflow_add-base c = omega (arith, small c)
+overflow_add-base c =
+    let found = sym c.in-At.is ∙ located (goal.at.overflow_add-base c).After-get_loc-loc in
+    omega (arith, small (goal.at.overflow_add-base c).After-row_at-in-loop-axis found)

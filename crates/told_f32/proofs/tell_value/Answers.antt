@@ -1,0 +1,25 @@
+-- The value and the marks are written before the outcome is told.
+use Rattle.told.proofs.Laws.{left_marked}
+use Rattle.told_f32.proofs.tell_value.Goals as goal
+
+pub returns : goal.returns
+returns c =
+    let tell = c in
+    let marks = tell in
+    let value = marks in
+    let outcome = value in
+    let a = outcome.args in
+    left_marked a.refusal.now a.n a.answer.marks a.marks.now tell.tell.ensures.value tell.tell.ensures.refusal_after
+    outcome.outcome_of-outcome.ensures value.put_value.ensures marks.put_marks.ensures
+
+pub outcome_of-outcome-requires : goal.outcome_of-outcome-requires
+outcome_of-outcome-requires c = tt
+
+pub put_value-requires : goal.put_value-requires
+put_value-requires c = tt
+
+pub put_marks-requires : goal.put_marks-requires
+put_marks-requires c = tt
+
+pub tell-requires : goal.tell-requires
+tell-requires c = tt
