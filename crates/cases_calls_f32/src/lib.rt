@@ -11,9 +11,10 @@ use harness_calls_f32::{call_new, same_value};
 use harness_corpus::refusal;
 use harness_corpus_f32::{GroupF32, part};
 use harness_with_grad_f32::same_single;
-use harness_words::{Tally, clear, same};
+use harness_words::{Tally, clear};
 use multicubic::EdgeMode;
 use multicubic_f32::{AxisF32, MarkedAnswerF32};
+use std::io;
 
 fn axis(step: f32, count: usize) -> AxisF32 {
     AxisF32 {
@@ -102,6 +103,7 @@ fn made(g: GroupF32, axes: &[f32], vals: &[f32], number: u64, axis: u64) -> Tall
 
 // Every one of the seven calls gives the refusal, whatever is asked, and the buffers keep their contents.
 pub fn refused_asked(
+    rt: &impl Print,
     s: Score,
     g: GroupF32,
     axes: &[f32],
@@ -111,17 +113,18 @@ pub fn refused_asked(
     number: u64,
     axis: u64,
     name: &[u8],
-) -> Score {
+) -> io::Result<Score> {
     let before = marked_words();
     let t = made(g, axes, vals, number, axis);
     let t = same_single(t, g, axes, vals, x, refusal(number, axis));
     let w = walk(t, number, 0, axis);
     let t = run_batches(g, axes, vals, queries, w, &before, &before);
-    told(s, t, name)
+    told(rt, s, t, name)
 }
 
 // The same, asked at 0.5.
 fn refused(
+    rt: &impl Print,
     s: Score,
     g: GroupF32,
     axes: &[f32],
@@ -129,36 +132,47 @@ fn refused(
     number: u64,
     axis: u64,
     name: &[u8],
-) -> Score {
-    refused_asked(s, g, axes, vals, [0.5; 4], &[0.5; 4], number, axis, name)
+) -> io::Result<Score> {
+    refused_asked(
+        rt, s, g, axes, vals, [0.5; 4], &[0.5; 4], number, axis, name,
+    )
 }
 
 // Both batches are refused by check 7, and the buffers keep their contents.
 pub fn refused_batch(
+    rt: &impl Print,
     s: Score,
     g: GroupF32,
     axes: &[f32],
     vals: &[f32],
     queries: &[f32],
     name: &[u8],
-) -> Score {
+) -> io::Result<Score> {
     let before = marked_words();
     let w = walk(made(g, axes, vals, 0, 0), 7, 0, 0);
     let t = run_batches(g, axes, vals, queries, w, &before, &before);
-    told(s, t, name)
+    told(rt, s, t, name)
 }
 
 // `new` takes the grid, and both batches take no queries.
-pub fn taken(s: Score, g: GroupF32, axes: &[f32], vals: &[f32], name: &[u8]) -> Score {
+pub fn taken(
+    rt: &impl Print,
+    s: Score,
+    g: GroupF32,
+    axes: &[f32],
+    vals: &[f32],
+    name: &[u8],
+) -> io::Result<Score> {
     let before = marked_words();
     let none = with_buffers(g, 0, 0);
     let w = walk(made(g, axes, vals, 0, 0), 0, 0, 0);
     let t = run_batches(none, axes, vals, part(axes, 0, 0), w, &before, &before);
-    told(s, t, name)
+    told(rt, s, t, name)
 }
 
 // A query on one axis is answered, alone and in batches.
 pub fn answered(
+    rt: &impl Print,
     s: Score,
     g: GroupF32,
     axes: &[f32],
@@ -168,7 +182,7 @@ pub fn answered(
     value: u64,
     slope: u64,
     name: &[u8],
-) -> Score {
+) -> io::Result<Score> {
     let e = answer_of([place, 0], value, [slope, 0]);
     let mut values = marked_words();
     values[0] = value;
@@ -179,11 +193,12 @@ pub fn answered(
     let t = same_single(t, g, axes, vals, [x, 0.0, 0.0, 0.0], e);
     let w = walk(t, 0, 0, 0);
     let t = run_batches(one, axes, vals, &[x], w, &values, &slopes);
-    told(s, t, name)
+    told(rt, s, t, name)
 }
 
 // `new` takes the grid, and a query on one axis is refused by the number, alone and in batches whose buffers keep their contents.
 pub fn not_placed(
+    rt: &impl Print,
     s: Score,
     g: GroupF32,
     axes: &[f32],
@@ -191,14 +206,14 @@ pub fn not_placed(
     x: f32,
     number: u64,
     name: &[u8],
-) -> Score {
+) -> io::Result<Score> {
     let before = marked_words();
     let one = with_buffers(g, 1, 1);
     let t = made(g, axes, vals, 0, 0);
     let t = same_single(t, g, axes, vals, [x, 0.0, 0.0, 0.0], refusal(number, 0));
     let w = walk(t, number, 0, 0);
     let t = run_batches(one, axes, vals, &[x], w, &before, &before);
-    told(s, t, name)
+    told(rt, s, t, name)
 }
 
 // The value on a grid that is made as a struct and asked.
@@ -215,6 +230,7 @@ fn ask(g: GroupF32, axes: &[f32], vals: &[f32], x: [f32; 4]) -> MarkedAnswerF32 
 
 // A kept grid is asked at x on one axis: it answers the value and the mark where the number is 0, else it refuses by that number, at axis 0.
 pub fn kept(
+    rt: &impl Print,
     s: Score,
     g: GroupF32,
     axes: &[f32],
@@ -224,14 +240,19 @@ pub fn kept(
     value: u64,
     mark: u64,
     name: &[u8],
-) -> Score {
+) -> io::Result<Score> {
     let mut e = refusal(number, 0);
     e.value = value;
     let asked = ask(g, axes, vals, [x, 0.0, 0.0, 0.0]);
     let answer = asked.answer;
     let marks = asked.marks;
     let t = same_value(clear(), INTERP_ONE, e, answer);
-    told(s, same_marks(t, INTERP_ONE, [mark, 0, 0, 0], marks), name)
+    told(
+        rt,
+        s,
+        same_marks(t, INTERP_ONE, [mark, 0, 0, 0], marks),
+        name,
+    )
 }
 
 pub fn zeros() -> [f32; 8192]
@@ -257,6 +278,7 @@ fn rising() -> [f32; 4096]
 
 // The same of a regular grid with so many values.
 pub fn regular_refused(
+    rt: &impl Print,
     s: Score,
     n: usize,
     counts: [usize; 3],
@@ -265,15 +287,16 @@ pub fn regular_refused(
     number: u64,
     axis: u64,
     name: &[u8],
-) -> Score {
+) -> io::Result<Score> {
     let g = regular(n, counts[0], counts[1], counts[2], steps[0], steps[1]);
     let zeros = zeros();
     let vals = part(&zeros, 0, values);
-    refused(s, g, part(&zeros, 0, 0), vals, number, axis, name)
+    refused(rt, s, g, part(&zeros, 0, 0), vals, number, axis, name)
 }
 
 // And of a rectilinear grid with so many entries in its joined axes.
 pub fn rectilinear_refused(
+    rt: &impl Print,
     s: Score,
     n: usize,
     counts: [usize; 3],
@@ -282,37 +305,44 @@ pub fn rectilinear_refused(
     number: u64,
     axis: u64,
     name: &[u8],
-) -> Score {
+) -> io::Result<Score> {
     let g = rectilinear(n, counts[0], counts[1], counts[2]);
     let zeros = zeros();
     let vals = part(&zeros, 0, values);
-    refused(s, g, part(&zeros, 0, entries), vals, number, axis, name)
+    refused(rt, s, g, part(&zeros, 0, entries), vals, number, axis, name)
 }
 
 // One axis is taken.
-pub fn regular_taken(s: Score, count: usize, name: &[u8]) -> Score {
+pub fn regular_taken(rt: &impl Print, s: Score, count: usize, name: &[u8]) -> io::Result<Score> {
     let g = regular(1, count, 0, 0, 1.0, 1.0);
     let zeros = zeros();
-    taken(s, g, part(&zeros, 0, 0), part(&zeros, 0, count), name)
+    taken(rt, s, g, part(&zeros, 0, 0), part(&zeros, 0, count), name)
 }
 
-pub fn rectilinear_taken(s: Score, count: usize, name: &[u8]) -> Score {
+pub fn rectilinear_taken(
+    rt: &impl Print,
+    s: Score,
+    count: usize,
+    name: &[u8],
+) -> io::Result<Score> {
     let g = rectilinear(1, count, 0, 0);
     let rising = rising();
     let entries = part(&rising, 0, count);
-    taken(s, g, entries, entries, name)
+    taken(rt, s, g, entries, entries, name)
 }
 
 // Refusals 5, 6 and 10, on two axes of four entries.
 pub fn rectilinear_refused_order(
+    rt: &impl Print,
     s: Score,
     entries: [f32; 8],
     number: u64,
     axis: u64,
     name: &[u8],
-) -> Score {
+) -> io::Result<Score> {
     let zeros = zeros();
     refused(
+        rt,
         s,
         rectilinear(2, 4, 4, 0),
         &entries,

@@ -12,6 +12,7 @@ use harness_corpus::{Group, part};
 use harness_with_grad::call_interp_one_with_grad;
 use harness_words::{NUMBER, Tally, bits_of, clear, float_of, number_of, same};
 use multicubic::outcome_of;
+use std::io;
 
 // The four single calls give the number and the marks.
 fn marked_in(
@@ -52,6 +53,7 @@ fn marked_in(
 
 // The same in all three settings.
 fn marked(
+    rt: &impl Print,
     s: Score,
     g: Group,
     axes: &[f64],
@@ -60,17 +62,25 @@ fn marked(
     number: u64,
     marks: [u64; 4],
     name: &[u8],
-) -> Score {
+) -> io::Result<Score> {
     let t = marked_in(clear(), g, axes, vals, x, number, marks);
     let t = marked_in(t, cubic(g), axes, vals, x, number, marks);
     let t = marked_in(t, held(g), axes, vals, x, number, marks);
-    told(s, t, name)
+    told(rt, s, t, name)
 }
 
 // On one axis of five nodes: 0 to 4, or 0, 1, 2, 4, 7. What the query has past it lies past every end, and is not looked at.
-fn on_axis(s: Score, g: Group, x: f64, mark: u64, name: &[u8]) -> Score {
+fn on_axis(
+    rt: &impl Print,
+    s: Score,
+    g: Group,
+    x: f64,
+    mark: u64,
+    name: &[u8],
+) -> io::Result<Score> {
     let nodes = [0.0, 1.0, 2.0, 4.0, 7.0];
     marked(
+        rt,
         s,
         g,
         &nodes,
@@ -83,27 +93,27 @@ fn on_axis(s: Score, g: Group, x: f64, mark: u64, name: &[u8]) -> Score {
 }
 
 // At the end nodes no mark, whatever the class; past them one.
-fn on_regular(s: Score) -> Score {
+fn on_regular(rt: &impl Print, s: Score) -> io::Result<Score> {
     let g = regular(1, 5, 0, 0, 1.0, 1.0);
-    let s = on_axis(s, g, -0.5, 1, b"regular, marks: at -0.5");
-    let s = on_axis(s, g, 0.0, 0, b"regular, marks: at 0");
-    let s = on_axis(s, g, -0.0, 0, b"regular, marks: at -0");
-    let s = on_axis(s, g, 2.5, 0, b"regular, marks: at 2.5");
-    let s = on_axis(s, g, 4.0, 0, b"regular, marks: at 4");
-    on_axis(s, g, 4.5, 2, b"regular, marks: at 4.5")
+    let s = on_axis(rt, s, g, -0.5, 1, b"regular, marks: at -0.5")?;
+    let s = on_axis(rt, s, g, 0.0, 0, b"regular, marks: at 0")?;
+    let s = on_axis(rt, s, g, -0.0, 0, b"regular, marks: at -0")?;
+    let s = on_axis(rt, s, g, 2.5, 0, b"regular, marks: at 2.5")?;
+    let s = on_axis(rt, s, g, 4.0, 0, b"regular, marks: at 4")?;
+    on_axis(rt, s, g, 4.5, 2, b"regular, marks: at 4.5")
 }
 
 // An infinity has a mark.
-fn on_rectilinear(s: Score) -> Score {
+fn on_rectilinear(rt: &impl Print, s: Score) -> io::Result<Score> {
     let g = rectilinear(1, 5, 0, 0);
     let far = 1.0 / 0.0;
-    let s = on_axis(s, g, -0.5, 1, b"rectilinear, marks: at -0.5");
-    let s = on_axis(s, g, 0.0, 0, b"rectilinear, marks: at 0");
-    let s = on_axis(s, g, -0.0, 0, b"rectilinear, marks: at -0");
-    let s = on_axis(s, g, 7.0, 0, b"rectilinear, marks: at 7");
-    let s = on_axis(s, g, 8.0, 2, b"rectilinear, marks: at 8");
-    let s = on_axis(s, g, far, 2, b"rectilinear, marks: at +inf");
-    on_axis(s, g, -far, 1, b"rectilinear, marks: at -inf")
+    let s = on_axis(rt, s, g, -0.5, 1, b"rectilinear, marks: at -0.5")?;
+    let s = on_axis(rt, s, g, 0.0, 0, b"rectilinear, marks: at 0")?;
+    let s = on_axis(rt, s, g, -0.0, 0, b"rectilinear, marks: at -0")?;
+    let s = on_axis(rt, s, g, 7.0, 0, b"rectilinear, marks: at 7")?;
+    let s = on_axis(rt, s, g, 8.0, 2, b"rectilinear, marks: at 8")?;
+    let s = on_axis(rt, s, g, far, 2, b"rectilinear, marks: at +inf")?;
+    on_axis(rt, s, g, -far, 1, b"rectilinear, marks: at -inf")
 }
 
 // 2^-1022, the least normal number.
@@ -113,7 +123,7 @@ fn least_normal() -> f64 {
 
 // Below the start by so little that the quotient rounds to -0: InsideLow, and marked. By steps of +inf node 0 is a NaN and the last +inf: nothing is
 // past them.
-fn by_the_nodes(s: Score) -> Score {
+fn by_the_nodes(rt: &impl Print, s: Score) -> io::Result<Score> {
     let nodes = [0.0, 1.0, 2.0, 3.0];
     let start = least_normal();
     let below = float_of(std::num::wrapping_sub_u64(bits_of(start), 1));
@@ -123,11 +133,13 @@ fn by_the_nodes(s: Score) -> Score {
     let answer = placed.answer;
     let places = answer.places;
     let s = told(
+        rt,
         s,
         same_place(clear(), 0, 1, places[0]),
         b"regular, marks: InsideLow below the start",
-    );
+    )?;
     let s = marked(
+        rt,
         s,
         g,
         &nodes,
@@ -136,9 +148,10 @@ fn by_the_nodes(s: Score) -> Score {
         0,
         [1, 0, 0, 0],
         b"regular, marks: below the start",
-    );
+    )?;
     let at = [start, 0.0, 0.0, 0.0];
     let s = marked(
+        rt,
         s,
         g,
         &nodes,
@@ -147,10 +160,11 @@ fn by_the_nodes(s: Score) -> Score {
         0,
         [0; 4],
         b"regular, marks: at the start",
-    );
+    )?;
     let h = regular_from(0.0, 1.0 / 0.0);
     let before = [-1.0, 0.0, 0.0, 0.0];
     marked(
+        rt,
         s,
         h,
         &nodes,
@@ -163,12 +177,20 @@ fn by_the_nodes(s: Score) -> Score {
 }
 
 // Each axis by itself: two axes past one end each, and the third of four past its last. Axis 1 goes to 6, the others to 3.
-fn each_axis(s: Score, two: Group, four: Group, on_two: &[u8], on_four: &[u8]) -> Score {
+fn each_axis(
+    rt: &impl Print,
+    s: Score,
+    two: Group,
+    four: Group,
+    on_two: &[u8],
+    on_four: &[u8],
+) -> io::Result<Score> {
     let z = zeros();
     let axes = [
         0.0, 1.0, 2.0, 3.0, 0.0, 2.0, 4.0, 6.0, 0.0, 1.0, 2.0, 3.0, 0.0, 1.0, 2.0, 3.0,
     ];
     let s = marked(
+        rt,
         s,
         two,
         part(&axes, 0, 8),
@@ -177,8 +199,9 @@ fn each_axis(s: Score, two: Group, four: Group, on_two: &[u8], on_four: &[u8]) -
         0,
         [1, 2, 0, 0],
         on_two,
-    );
+    )?;
     marked(
+        rt,
         s,
         four,
         &axes,
@@ -190,15 +213,17 @@ fn each_axis(s: Score, two: Group, four: Group, on_two: &[u8], on_four: &[u8]) -
     )
 }
 
-fn several_axes(s: Score) -> Score {
+fn several_axes(rt: &impl Print, s: Score) -> io::Result<Score> {
     let s = each_axis(
+        rt,
         s,
         regular(2, 4, 4, 0, 1.0, 2.0),
         regular(4, 4, 4, 4, 1.0, 2.0),
         b"regular, marks: below on axis 0, above on axis 1",
         b"regular, marks: above on axis 2 of 4",
-    );
+    )?;
     each_axis(
+        rt,
         s,
         rectilinear(2, 4, 4, 0),
         rectilinear(4, 4, 4, 4),
@@ -208,18 +233,18 @@ fn several_axes(s: Score) -> Score {
 }
 
 // 2^63 is refused unless the edge is held; then it is answered, and marked.
-fn far(s: Score) -> Score {
+fn far(rt: &impl Print, s: Score) -> io::Result<Score> {
     let nodes = [0.0, 1.0, 2.0, 3.0];
     let g = regular(1, 4, 0, 0, 1.0, 1.0);
     let x = [9223372036854775808.0, 0.0, 0.0, 0.0];
     let t = marked_in(clear(), g, &nodes, &nodes, x, 8, [0; 4]);
     let t = marked_in(t, cubic(g), &nodes, &nodes, x, 8, [0; 4]);
     let t = marked_in(t, held(g), &nodes, &nodes, x, 0, [2, 0, 0, 0]);
-    told(s, t, b"regular, marks: at 2^63")
+    told(rt, s, t, b"regular, marks: at 2^63")
 }
 
 // A refusal has no mark, on the axes that were not refused either.
-fn refused(s: Score) -> Score {
+fn refused(rt: &impl Print, s: Score) -> io::Result<Score> {
     let z = zeros();
     let nodes = [0.0, 1.0, 2.0, 3.0, 0.0, 1.0, 2.0, 1.0];
     let rising = [0.0, 1.0, 2.0, 3.0, 0.0, 1.0, 2.0, 3.0];
@@ -227,6 +252,7 @@ fn refused(s: Score) -> Score {
     let past = [-0.5, 9.0, 0.0, 0.0];
     let vals = part(&z, 0, 16);
     let s = marked(
+        rt,
         s,
         regular(2, 4, 4, 0, 1.0, 1.0),
         &nodes,
@@ -235,8 +261,9 @@ fn refused(s: Score) -> Score {
         9,
         [0; 4],
         b"regular, marks: refused by 9 on axis 1",
-    );
+    )?;
     let s = marked(
+        rt,
         s,
         rectilinear(2, 4, 4, 0),
         &rising,
@@ -245,8 +272,9 @@ fn refused(s: Score) -> Score {
         9,
         [0; 4],
         b"rectilinear, marks: refused by 9 on axis 1",
-    );
+    )?;
     let s = marked(
+        rt,
         s,
         regular(2, 4, 4, 0, 1.0, 0.0),
         &nodes,
@@ -255,8 +283,9 @@ fn refused(s: Score) -> Score {
         5,
         [0; 4],
         b"regular, marks: refused by 5 on axis 1",
-    );
+    )?;
     marked(
+        rt,
         s,
         rectilinear(2, 4, 4, 0),
         &nodes,
@@ -268,11 +297,11 @@ fn refused(s: Score) -> Score {
     )
 }
 
-pub fn marked_cases(s: Score) -> Score {
-    let s = on_regular(s);
-    let s = on_rectilinear(s);
-    let s = by_the_nodes(s);
-    let s = several_axes(s);
-    let s = far(s);
-    refused(s)
+pub fn marked_cases(rt: &impl Print, s: Score) -> io::Result<Score> {
+    let s = on_regular(rt, s)?;
+    let s = on_rectilinear(rt, s)?;
+    let s = by_the_nodes(rt, s)?;
+    let s = several_axes(rt, s)?;
+    let s = far(rt, s)?;
+    refused(rt, s)
 }

@@ -8,6 +8,7 @@ use harness_calls::INTERP_ONE_WITH_GRAD;
 use harness_corpus::{Expected, Group, columns, part, refusal};
 use harness_with_grad::{call_interp_one_with_grad, same_single, same_with_grad};
 use harness_words::{Tally, bits_of, clear};
+use std::io;
 
 // 0, 1, 4, 9, ..
 fn squares() -> [f64; 256]
@@ -58,6 +59,7 @@ fn same_both(
 
 // In all three settings, without a mark.
 fn in_each(
+    rt: &impl Print,
     s: Score,
     g: Group,
     axes: &[f64],
@@ -66,11 +68,11 @@ fn in_each(
     e: Expected,
     sums: u64,
     name: &[u8],
-) -> Score {
+) -> io::Result<Score> {
     let t = same_both(clear(), g, axes, vals, x, e, [0; 4], sums);
     let t = same_both(t, cubic(g), axes, vals, x, e, [0; 4], sums);
     let t = same_both(t, held(g), axes, vals, x, e, [0; 4], sums);
-    told(s, t, name)
+    told(rt, s, t, name)
 }
 
 // The joined axes of up to four axes of four entries: axis 1 goes to 6, the others to 3.
@@ -85,6 +87,7 @@ fn joined() -> [f64; 16]
 // Each value is the square of its index, and so are the answers between the nodes: at 1.5, 2.5, 1.75, 1.125 the index is 1.5 on one axis, 7.25 on
 // two, 30.75 on three, 124.125 on four.
 fn on_axes(
+    rt: &impl Print,
     s: Score,
     g: Group,
     values: usize,
@@ -92,17 +95,18 @@ fn on_axes(
     gradient: [f64; 4],
     sums: u64,
     name: &[u8],
-) -> Score {
+) -> io::Result<Score> {
     let axes = joined();
     let squares = squares();
     let entries = part(&axes, 0, columns(g.n, 4));
     let vals = part(&squares, 0, values);
     let x = [1.5, 2.5, 1.75, 1.125];
     let e = answer_to([0; 4], value, gradient);
-    in_each(s, g, entries, vals, x, e, sums, name)
+    in_each(rt, s, g, entries, vals, x, e, sums, name)
 }
 
 fn on_each_count(
+    rt: &impl Print,
     s: Score,
     one: Group,
     two: Group,
@@ -112,10 +116,11 @@ fn on_each_count(
     on_two: &[u8],
     on_three: &[u8],
     on_four: &[u8],
-) -> Score {
-    let s = on_axes(s, one, 4, 2.25, [3.0, 0.0, 0.0, 0.0], 2, on_one);
-    let s = on_axes(s, two, 16, 52.5625, [58.0, 7.25, 0.0, 0.0], 11, on_two);
+) -> io::Result<Score> {
+    let s = on_axes(rt, s, one, 4, 2.25, [3.0, 0.0, 0.0, 0.0], 2, on_one)?;
+    let s = on_axes(rt, s, two, 16, 52.5625, [58.0, 7.25, 0.0, 0.0], 11, on_two)?;
     let s = on_axes(
+        rt,
         s,
         three,
         64,
@@ -123,8 +128,9 @@ fn on_each_count(
         [984.0, 123.0, 61.5, 0.0],
         48,
         on_three,
-    );
+    )?;
     on_axes(
+        rt,
         s,
         four,
         256,
@@ -135,8 +141,9 @@ fn on_each_count(
     )
 }
 
-fn counted(s: Score) -> Score {
+fn counted(rt: &impl Print, s: Score) -> io::Result<Score> {
     let s = on_each_count(
+        rt,
         s,
         regular(1, 4, 4, 4, 1.0, 2.0),
         regular(2, 4, 4, 4, 1.0, 2.0),
@@ -146,8 +153,9 @@ fn counted(s: Score) -> Score {
         b"regular, both: 2 axes, 11 sums",
         b"regular, both: 3 axes, 48 sums",
         b"regular, both: 4 axes, 197 sums",
-    );
+    )?;
     on_each_count(
+        rt,
         s,
         rectilinear(1, 4, 4, 4),
         rectilinear(2, 4, 4, 4),
@@ -161,11 +169,19 @@ fn counted(s: Score) -> Score {
 }
 
 // A refusal on axis 1 of two, axis 0 being past its end: no mark, no sum, four +0 for the gradient.
-fn refused_on(s: Score, g: Group, short: Group, by_4: &[u8], by_9: &[u8]) -> Score {
+fn refused_on(
+    rt: &impl Print,
+    s: Score,
+    g: Group,
+    short: Group,
+    by_4: &[u8],
+    by_9: &[u8],
+) -> io::Result<Score> {
     let axes = joined();
     let squares = squares();
     let none = 0.0 / 0.0;
     let s = in_each(
+        rt,
         s,
         short,
         part(&axes, 0, 7),
@@ -174,8 +190,9 @@ fn refused_on(s: Score, g: Group, short: Group, by_4: &[u8], by_9: &[u8]) -> Sco
         refusal(4, 1),
         0,
         by_4,
-    );
+    )?;
     in_each(
+        rt,
         s,
         g,
         part(&axes, 0, 8),
@@ -188,7 +205,7 @@ fn refused_on(s: Score, g: Group, short: Group, by_4: &[u8], by_9: &[u8]) -> Sco
 }
 
 // 2^63 steps have no place on a regular axis, unless the edge is held.
-fn unplaced(s: Score) -> Score {
+fn unplaced(rt: &impl Print, s: Score) -> io::Result<Score> {
     let axes = joined();
     let squares = squares();
     let entries = part(&axes, 0, 8);
@@ -198,19 +215,21 @@ fn unplaced(s: Score) -> Score {
     let e = refusal(8, 1);
     let t = same_both(clear(), g, entries, vals, x, e, [0; 4], 0);
     let t = same_both(t, cubic(g), entries, vals, x, e, [0; 4], 0);
-    told(s, t, b"regular, both: refused by 8 on axis 1")
+    told(rt, s, t, b"regular, both: refused by 8 on axis 1")
 }
 
-fn refused(s: Score) -> Score {
+fn refused(rt: &impl Print, s: Score) -> io::Result<Score> {
     let s = refused_on(
+        rt,
         s,
         regular(2, 4, 4, 4, 1.0, 2.0),
         regular(2, 4, 3, 4, 1.0, 2.0),
         b"regular, both: refused by 4 on axis 1",
         b"regular, both: refused by 9 on axis 1",
-    );
-    let s = unplaced(s);
+    )?;
+    let s = unplaced(rt, s)?;
     refused_on(
+        rt,
         s,
         rectilinear(2, 4, 4, 4),
         rectilinear(2, 4, 3, 4),
@@ -221,6 +240,7 @@ fn refused(s: Score) -> Score {
 
 // A query to the squares with the edge held, past the ends that the marks say.
 fn held_past(
+    rt: &impl Print,
     s: Score,
     g: Group,
     values: usize,
@@ -229,18 +249,19 @@ fn held_past(
     marks: [u64; 4],
     sums: u64,
     name: &[u8],
-) -> Score {
+) -> io::Result<Score> {
     let axes = joined();
     let squares = squares();
     let entries = part(&axes, 0, columns(g.n, 4));
     let vals = part(&squares, 0, values);
     let t = same_both(clear(), held(g), entries, vals, x, e, marks, sums);
-    told(s, t, name)
+    told(rt, s, t, name)
 }
 
 // The component of a replaced axis is a sum of four +0 times values: +0 of values that are above 0. The indices are 13.25, 6 and 213.5. A last node
 // has the class `high`, a first one the class `low`.
 fn held_several(
+    rt: &impl Print,
     s: Score,
     two: Group,
     four: Group,
@@ -249,8 +270,9 @@ fn held_several(
     on_0: &[u8],
     on_1: &[u8],
     on_0_and_2: &[u8],
-) -> Score {
+) -> io::Result<Score> {
     let s = held_past(
+        rt,
         s,
         two,
         16,
@@ -259,8 +281,9 @@ fn held_several(
         [2, 0, 0, 0],
         11,
         on_0,
-    );
+    )?;
     let s = held_past(
+        rt,
         s,
         two,
         16,
@@ -269,8 +292,9 @@ fn held_several(
         [0, 1, 0, 0],
         11,
         on_1,
-    );
+    )?;
     held_past(
+        rt,
         s,
         four,
         256,
@@ -283,7 +307,14 @@ fn held_several(
 }
 
 // It is -0 of values that are all below 0, and a NaN where one of them is infinite.
-fn held_signs(s: Score, g: Group, high: u64, below: &[u8], infinite: &[u8]) -> Score {
+fn held_signs(
+    rt: &impl Print,
+    s: Score,
+    g: Group,
+    high: u64,
+    below: &[u8],
+    infinite: &[u8],
+) -> io::Result<Score> {
     let axes = joined();
     let entries = part(&axes, 0, 4);
     let x = [9.0, 0.0, 0.0, 0.0];
@@ -291,16 +322,17 @@ fn held_signs(s: Score, g: Group, high: u64, below: &[u8], infinite: &[u8]) -> S
     let e = answer_to([high, 0, 0, 0], -4.0, [-0.0, 0.0, 0.0, 0.0]);
     let v = [-1.0, -2.0, -3.0, -4.0];
     let t = same_both(clear(), held(g), entries, &v, x, e, [2, 0, 0, 0], 2);
-    let s = told(s, t, below);
+    let s = told(rt, s, t, below)?;
     let e = answer_to([high, 0, 0, 0], far, [0.0 / 0.0, 0.0, 0.0, 0.0]);
     let v = [1.0, 2.0, 3.0, far];
     let t = same_both(clear(), held(g), entries, &v, x, e, [2, 0, 0, 0], 2);
-    told(s, t, infinite)
+    told(rt, s, t, infinite)
 }
 
 // At its last node a regular axis is OutsideHigh and a rectilinear one InsideHigh, at its first InsideLow and OutsideLow.
-fn held_edge(s: Score) -> Score {
+fn held_edge(rt: &impl Print, s: Score) -> io::Result<Score> {
     let s = held_several(
+        rt,
         s,
         regular(2, 4, 4, 4, 1.0, 2.0),
         regular(4, 4, 4, 4, 1.0, 2.0),
@@ -309,8 +341,9 @@ fn held_edge(s: Score) -> Score {
         b"regular, both, held: past axis 0",
         b"regular, both, held: past axis 1",
         b"regular, both, held: past axes 0 and 2 of 4",
-    );
+    )?;
     let s = held_several(
+        rt,
         s,
         rectilinear(2, 4, 4, 4),
         rectilinear(4, 4, 4, 4),
@@ -319,15 +352,17 @@ fn held_edge(s: Score) -> Score {
         b"rectilinear, both, held: past axis 0",
         b"rectilinear, both, held: past axis 1",
         b"rectilinear, both, held: past axes 0 and 2 of 4",
-    );
+    )?;
     let s = held_signs(
+        rt,
         s,
         regular(1, 4, 4, 4, 1.0, 2.0),
         4,
         b"regular, both, held: values below 0",
         b"regular, both, held: last value +inf",
-    );
+    )?;
     held_signs(
+        rt,
         s,
         rectilinear(1, 4, 4, 4),
         3,
@@ -336,8 +371,8 @@ fn held_edge(s: Score) -> Score {
     )
 }
 
-pub fn with_grad_cases(s: Score) -> Score {
-    let s = counted(s);
-    let s = refused(s);
-    held_edge(s)
+pub fn with_grad_cases(rt: &impl Print, s: Score) -> io::Result<Score> {
+    let s = counted(rt, s)?;
+    let s = refused(rt, s)?;
+    held_edge(rt, s)
 }

@@ -3,102 +3,101 @@
 
 use harness_corpus::{CUT_SHORT, OUT_OF_LIMITS, TRAILING};
 use harness_words::{DIFFERS, Tally};
-use libc::STDOUT_FILENO;
+use std::io;
 
-pub fn say(text: &[u8]) {
-    io::write_all(STDOUT_FILENO, text);
+pub fn say(rt: &impl Print, text: &[u8]) -> io::Result<()> {
+    rt.write_all(text)
 }
 
-pub fn say_number(x: u64) {
-    io::print_decimal(STDOUT_FILENO, x);
+pub fn say_number(rt: &impl Print, x: u64) -> io::Result<()> {
+    print!(rt; "{x}")
 }
 
-fn say_bits(x: u64) {
-    io::print_hex(STDOUT_FILENO, x, 16);
+fn say_bits(rt: &impl Print, x: u64) -> io::Result<()> {
+    print!(rt; "{x:016x}")
 }
 
-fn say_call(call: u64) {
+fn say_call(rt: &impl Print, call: u64) -> io::Result<()> {
     match call {
-        1 => say(b"new"),
-        2 => say(b"get_loc"),
-        3 => say(b"interp_one"),
-        4 => say(b"interp_one_grad"),
-        5 => say(b"interp"),
-        6 => say(b"interp_grad"),
-        _ => say(b"interp_one_with_grad"),
+        1 => say(rt, b"new"),
+        2 => say(rt, b"get_loc"),
+        3 => say(rt, b"interp_one"),
+        4 => say(rt, b"interp_one_grad"),
+        5 => say(rt, b"interp"),
+        6 => say(rt, b"interp_grad"),
+        _ => say(rt, b"interp_one_with_grad"),
     }
 }
 
-fn say_item(item: u64) {
+fn say_item(rt: &impl Print, item: u64) -> io::Result<()> {
     match item {
-        1 => say(b" number "),
-        2 => say(b" query "),
-        3 => say(b" axis "),
-        4 => say(b" origin "),
-        5 => say(b" class "),
-        6 => say(b" value "),
-        7 => say(b" component "),
-        8 => say(b" entry "),
-        9 => say(b" mark "),
-        _ => say(b" sums "),
+        1 => say(rt, b" number "),
+        2 => say(rt, b" query "),
+        3 => say(rt, b" axis "),
+        4 => say(rt, b" origin "),
+        5 => say(rt, b" class "),
+        6 => say(rt, b" value "),
+        7 => say(rt, b" component "),
+        8 => say(rt, b" entry "),
+        9 => say(rt, b" mark "),
+        _ => say(rt, b" sums "),
     }
 }
 
 // Which part of which answer differs, and how.
-pub fn say_difference_in(t: Tally) {
-    say_call(t.call);
-    say_item(t.item);
-    say_number(t.place);
-    say(b": expected ");
-    say_bits(t.expected);
-    say(b", found ");
-    say_bits(t.found);
+pub fn say_difference_in(rt: &impl Print, t: Tally) -> io::Result<()> {
+    say_call(rt, t.call)?;
+    say_item(rt, t.item)?;
+    say_number(rt, t.place)?;
+    say(rt, b": expected ")?;
+    say_bits(rt, t.expected)?;
+    say(rt, b", found ")?;
+    say_bits(rt, t.found)
 }
 
 // The first difference. Groups and queries count from 0; an entry is one of the buffer.
-fn say_difference(t: Tally) {
-    say(b"replay: DIFFERS in group ");
-    say_number(t.groups);
-    say(b", query ");
-    say_number(t.query);
-    say(b": ");
-    say_difference_in(t);
-    say(b"\n");
+fn say_difference(rt: &impl Print, t: Tally) -> io::Result<()> {
+    say(rt, b"replay: DIFFERS in group ")?;
+    say_number(rt, t.groups)?;
+    say(rt, b", query ")?;
+    say_number(rt, t.query)?;
+    say(rt, b": ")?;
+    say_difference_in(rt, t)?;
+    say(rt, b"\n")
 }
 
-fn say_agreement(t: Tally) {
-    say(b"replay: ");
-    say_number(t.queries);
-    say(b" queries in ");
-    say_number(t.groups);
-    say(b" groups, ");
-    say_number(t.comparisons);
-    say(b" comparisons agree\n");
+fn say_agreement(rt: &impl Print, t: Tally) -> io::Result<()> {
+    say(rt, b"replay: ")?;
+    say_number(rt, t.queries)?;
+    say(rt, b" queries in ")?;
+    say_number(rt, t.groups)?;
+    say(rt, b" groups, ")?;
+    say_number(rt, t.comparisons)?;
+    say(rt, b" comparisons agree\n")
 }
 
-fn say_fault(t: Tally) {
-    say(b"replay: FAULT in the corpus, group ");
-    say_number(t.groups);
+fn say_fault(rt: &impl Print, t: Tally) -> io::Result<()> {
+    say(rt, b"replay: FAULT in the corpus, group ")?;
+    say_number(rt, t.groups)?;
     if t.state == CUT_SHORT {
-        say(b": cut short\n");
+        say(rt, b": cut short\n")?;
     }
     if t.state == OUT_OF_LIMITS {
-        say(b": out of limits\n");
+        say(rt, b": out of limits\n")?;
     }
     if t.state == TRAILING {
-        say(b": words after the last group\n");
+        say(rt, b": words after the last group\n")?;
     }
+    Ok(())
 }
 
 // The one line of a run.
-pub fn report(t: Tally) {
+pub fn report(rt: &impl Print, t: Tally) -> io::Result<()> {
     if t.state == 0 {
-        say_agreement(t);
-        return;
+        return say_agreement(rt, t);
     }
     if t.state == DIFFERS {
-        say_difference(t);
-        return;
+        return say_difference(rt, t);
     }
-    say_fault(t);
+    say_fault(rt, t)
 }

@@ -5,33 +5,31 @@
 use harness_report::{report, say};
 use harness_words_f32::decode;
 use replay_walk_f32::run;
+use std::alloc::Global;
+use std::io::Read;
+use std::{fs, io};
 
-fn replay_bytes(bytes: &[u8]) {
+fn replay_bytes(rt: &impl Print, alloc: Global, bytes: &[u8]) -> io::Result<()> {
     let got = bytes.len();
     if 1048576 < got {
-        say(b"replay: FAULT: the corpus is over 131,072 words\n");
-        return;
+        return say(rt, b"replay: FAULT: the corpus is over 131,072 words\n");
     }
     if got % 8 != 0 {
-        say(b"replay: FAULT: the corpus is not whole words\n");
-        return;
+        return say(rt, b"replay: FAULT: the corpus is not whole words\n");
     }
     let count = got / 8;
-    let mut words = [0; 131072];
-    let mut floats = [0.0; 131072];
+    let mut words = vec![in alloc; 0; 131072]?;
+    let mut floats = vec![in alloc; 0.0; 131072]?;
     decode(bytes, &mut words, &mut floats, count);
-    report(run(&words[..count], &floats[..count]));
+    report(rt, run(&words[..count], &floats[..count]))
 }
 
-fn main() {
-    let fd = os::open_read(b"corpus.bin");
-    if fd < 0 {
-        say(b"replay: FAULT: there is no corpus.bin\n");
-        return;
-    }
-    // Room for a word more than a corpus may have.
-    let mut bytes = [0; 1048584];
-    let got = io::read_full(fd, &mut bytes);
-    libc::close(fd);
-    replay_bytes(&bytes[..got]);
+fn main(rt: HostRuntime) -> io::Result<()> {
+    let Ok(file) = fs::open(&rt, "corpus.bin") else {
+        return say(&rt, b"replay: FAULT: there is no corpus.bin\n");
+    };
+    let mut bytes = Vec::new(rt.alloc());
+    // A word more than a corpus may have.
+    file.take(1048584).read_to_end(&mut bytes)?;
+    replay_bytes(&rt, rt.alloc(), &bytes)
 }

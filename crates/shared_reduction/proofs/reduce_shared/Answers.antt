@@ -19,7 +19,7 @@ shared3-requires c =
     let s = c in
     let n : s.args.axis_count ≡ 3 = c.if-axis_count-eq3.true in
     record {
-      strides_in_bounds = omega (arith, room s n, (reaches s.args.strides s.well_formed.1.1.1.1.0.1.0.1).2);
+      strides_in_bounds = omega (arith, room (goal.at.shared3-requires c).Start n, (reaches s.args.strides s.well_formed.1.1.1.1.0.1.0.1).2);
       steps_of_bound = omega (arith, c.none-sums.ensures);
     }
 
@@ -38,7 +38,7 @@ shared1-requires c =
     let s = c in
     let n : s.args.axis_count ≡ 1 = c.if-axis_count-eq1.true in
     record {
-      strides_in_bounds = omega (arith, room s n, (reaches s.args.strides s.well_formed.1.1.1.1.0.1.0.1).0);
+      strides_in_bounds = omega (arith, room (goal.at.shared1-requires c).Start n, (reaches s.args.strides s.well_formed.1.1.1.1.0.1.0.1).0);
       steps_of_bound = omega (arith, c.none-sums.ensures);
     }
 
@@ -57,7 +57,7 @@ shared2-requires c =
     let s = c in
     let n : s.args.axis_count ≡ 2 = c.if-axis_count-eq2.true in
     record {
-      strides_in_bounds = omega (arith, room s n, (reaches s.args.strides s.well_formed.1.1.1.1.0.1.0.1).1);
+      strides_in_bounds = omega (arith, room (goal.at.shared2-requires c).Start n, (reaches s.args.strides s.well_formed.1.1.1.1.0.1.0.1).1);
       steps_of_bound = omega (arith, c.none-sums.ensures);
     }
 
@@ -76,7 +76,7 @@ shared4-requires c =
     let s = c in
     let n : s.args.axis_count ≡ 4 = omega (arith, s.requires.0, s.requires.1) in
     record {
-      strides_in_bounds = omega (arith, room s n, (reaches s.args.strides s.well_formed.1.1.1.1.0.1.0.1).3);
+      strides_in_bounds = omega (arith, room (goal.at.shared4-requires c).Start n, (reaches s.args.strides s.well_formed.1.1.1.1.0.1.0.1).3);
       steps_of_bound = omega (arith, c.none-sums.ensures);
     }
 

@@ -1,0 +1,37 @@
+-- `partition_point`: the count stays between lo and lo + size, and each turn leaves a quarter of size, or the last part.
+use Prim.Native.Nat.{◌+◌, ◌/◌}
+use native.Mathlib.Omega.{arith}
+use lib.ListN.{length}
+use Rattle.rectilinear_axis.proofs.Search.{at_most, rest_holds}
+use Rattle.rectilinear_axis_f32.proofs.partition_point.Goals as goal
+
+pub loop-size-init : goal.loop-size-init
+loop-size-init c =
+    let a = c.args in
+    (omega arith, omega arith, at_most a.grid.now a.v (0 + length a.grid.now) (λ k h u. absurd (omega arith)))
+
+pub forward-lo-requires : goal.forward-lo-requires
+forward-lo-requires c = record {
+      q_in_bounds = omega arith;
+      grid_value = c.requires;
+      lo_bound = c.loop-size.invariant.1;
+    }
+
+pub loop-size-preserved : goal.loop-size-preserved
+loop-size-preserved c =
+    let l = c.loop-size in
+    let f = c.forward-lo.ensures in
+    (omega (arith, f.1), f.0, rest_holds _ l.lo (l.size / 4) l.size _ f (omega arith) l.invariant.2)
+
+pub count_from-requires : goal.count_from-requires
+count_from-requires c =
+    let i = c.loop-size.invariant in
+    record {
+      size_in_bounds = i.0;
+      grid_value = c.requires;
+      lo_bound = i.1;
+      grid_bound = i.2;
+    }
+
+pub returns : goal.returns
+returns c = c.count_from.ensures

@@ -1,0 +1,12 @@
+-- `hold`: each return is a case of the definition.
+use Rattle.std.proofs.Common.{refl}
+use Rattle.regular_axis_f32.proofs.hold.Goals as goal
+
+pub returns-then-marks : goal.returns-then-marks
+returns-then-marks c = rw c.if-marks.true c.first_node.ensures
+
+pub returns-then-marks-2 : goal.returns-then-marks-2
+returns-then-marks-2 c = rw (c.if-marks.false, c.if-marks-2.true) c.last_node.ensures
+
+pub returns : goal.returns
+returns c = rw (c.if-marks.false, c.if-marks-2.false) refl
