@@ -28,9 +28,8 @@ returns-in-Refused c =
 
 pub loop-i-preserved : goal.loop-i-preserved
 loop-i-preserved c =
-    let l = c in
-    let next = filling-turn l.loop-i.invariant.4 c.loop-i-test.true c.answer_at-answer.ensures (ap as_answer c.in-Value.is) in
-    (omega arith, l.loop-i.invariant.1, next.same_length, l.loop-i.invariant.3, next)
+    let next = filling-turn c.loop-i.invariant.4 c.loop-i-test.true c.answer_at-answer.ensures (ap as_answer c.in-Value.is) in
+    (omega arith, c.loop-i.invariant.1, next.same_length, c.loop-i.invariant.3, next)
 
 pub shape_of-out : goal.shape_of-out
 shape_of-out c = c.loop-i.invariant.4.same_length

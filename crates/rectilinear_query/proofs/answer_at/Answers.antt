@@ -57,12 +57,11 @@ module _ (mode : EdgeMode) {n : ℕ} {counts : List ℕ} {joined : List Float} {
 
 pub loop-axis-init : goal.loop-axis-init
 loop-axis-init c =
-    let s = c in
-    let four = s.well_formed.1.0.1.0.1 in
-    let ready = s.requires.ready in
-    let f = fit binary64 s.args.mode four (taken_of ready) in
-    let spaced = spaced-by binary64 s.args.mode four (taken_of ready) s.args.strides ready.spaced in
-    (omega arith, f.few, four, refl, ready, c.linearize_extrapolation-straight.ensures, turn_none _ _ _ _ _ _ _ _ s.requires.i_lt_count.0 s.requires.i_lt_count.1 s.requires.asked s.well_formed.1.1.1.1.1.0.1.0.1 spaced refl)
+    let four = c.well_formed.1.0.1.0.1 in
+    let ready = c.requires.ready in
+    let f = fit binary64 c.args.mode four (taken_of ready) in
+    let spaced = spaced-by binary64 c.args.mode four (taken_of ready) c.args.strides ready.spaced in
+    (omega arith, f.few, four, refl, ready, c.linearize_extrapolation-straight.ensures, turn_none _ _ _ _ _ _ _ _ c.requires.i_lt_count.0 c.requires.i_lt_count.1 c.requires.asked c.well_formed.1.1.1.1.1.0.1.0.1 spaced refl)
 
 pub offset_bounds-queries-at : goal.offset_bounds-queries-at
 offset_bounds-queries-at c = omega (arith, turn-room (fits c.args.mode c.loop-axis.invariant.2 c.loop-axis.invariant.4) c.loop-axis.invariant.6 c.loop-axis-test.true, c.well_formed)

@@ -28,10 +28,9 @@ module _ (c : At-loop-i) (h : c.loop-i.i < c.args.axis_count) where
 
 pub loop-i-init : goal.loop-i-init
 loop-i-init c =
-    let s = c in
     let e = c.unmarked-marks.ensures in
-    let four = s.well_formed.1.0.1.0.1 in
-    (search rules, (fit binary64 Cubic four s.requires).few, four, s.well_formed.1.1.1.0.1.0.1, ap length e, s.requires, refl, λ mode. marking_none _ _ _ e)
+    let four = c.well_formed.1.0.1.0.1 in
+    (search rules, (fit binary64 Cubic four c.requires).few, four, c.well_formed.1.1.1.0.1.0.1, ap length e, c.requires, refl, λ mode. marking_none _ _ _ e)
 
 pub overflow_add-end : goal.overflow_add-end
 overflow_add-end c = omega (arith, ends (goal.at.overflow_add-end c).At-loop-i c.loop-i-test.true, c.well_formed)
@@ -47,26 +46,24 @@ marks_at-requires c = long (goal.at.marks_at-requires c).At-loop-i c.loop-i-test
 
 pub loop-i-preserved : goal.loop-i-preserved
 loop-i-preserved c =
-    let l = c in
-    let a = l.args in
+    let a = c.args in
     let h = c.loop-i-test.true in
-    let inside : (mode : EdgeMode) → l.loop-i.i < length (axes_in binary64 mode a.axis_count a.counts a.axes.now) =
-    λ mode. rw (fit binary64 mode l.loop-i.invariant.2 l.loop-i.invariant.5).counted h in
-    let own : (mode : EdgeMode) → c.marks_at.result ≡ marks_at (get_or (axes_in binary64 mode a.axis_count a.counts a.axes.now) l.loop-i.i no_grid_axis) (at a.x l.loop-i.i) =
-    λ mode. marks_by mode (λ straight. grid_axis binary64 straight (entries (goal.at.loop-i-preserved c).At-loop-i h)) refl refl (get_or a.x l.loop-i.i nan) c.marks_at.result c.marks_at.ensures.below_value c.marks_at.ensures.above_value
-    ∙ ap (λ (g : GridAxis). marks_at g (get_or a.x l.loop-i.i nan)) (axis-is binary64 mode l.loop-i.invariant.2 l.loop-i.invariant.5 l.loop-i.i h l.loop-i.start l.loop-i.invariant.6) in (
+    let inside : (mode : EdgeMode) → c.loop-i.i < length (axes_in binary64 mode a.axis_count a.counts a.axes.now) =
+    λ mode. rw (fit binary64 mode c.loop-i.invariant.2 c.loop-i.invariant.5).counted h in
+    let own : (mode : EdgeMode) → c.marks_at.result ≡ marks_at (get_or (axes_in binary64 mode a.axis_count a.counts a.axes.now) c.loop-i.i no_grid_axis) (at a.x c.loop-i.i) =
+    λ mode. marks_by mode (λ straight. grid_axis binary64 straight (entries (goal.at.loop-i-preserved c).At-loop-i h)) refl refl (get_or a.x c.loop-i.i nan) c.marks_at.result c.marks_at.ensures.below_value c.marks_at.ensures.above_value
+    ∙ ap (λ (g : GridAxis). marks_at g (get_or a.x c.loop-i.i nan)) (axis-is binary64 mode c.loop-i.invariant.2 c.loop-i.invariant.5 c.loop-i.i h c.loop-i.start c.loop-i.invariant.6) in (
       omega arith,
-      l.loop-i.invariant.1,
-      l.loop-i.invariant.2,
-      l.loop-i.invariant.3,
-      rw length-set l.loop-i.invariant.4,
-      l.loop-i.invariant.5,
-      omega (arith, l.loop-i.invariant.6, sum_next a.counts l.loop-i.i),
-      λ mode. marking-turn (l.loop-i.invariant.7 mode) (inside mode) (omega arith) _ (own mode),
+      c.loop-i.invariant.1,
+      c.loop-i.invariant.2,
+      c.loop-i.invariant.3,
+      rw length-set c.loop-i.invariant.4,
+      c.loop-i.invariant.5,
+      omega (arith, c.loop-i.invariant.6, sum_next a.counts c.loop-i.i),
+      λ mode. marking-turn (c.loop-i.invariant.7 mode) (inside mode) (omega arith) _ (own mode),
     )
 
 pub returns : goal.returns
 returns c mode =
-    let l = c in
-    let e : l.loop-i.i ≡ l.args.axis_count = omega arith in
-    marking-all (l.loop-i.invariant.7 mode) (e ∙ sym (fit binary64 mode l.loop-i.invariant.2 l.loop-i.invariant.5).counted)
+    let e : c.loop-i.i ≡ c.args.axis_count = omega arith in
+    marking-all (c.loop-i.invariant.7 mode) (e ∙ sym (fit binary64 mode c.loop-i.invariant.2 c.loop-i.invariant.5).counted)
