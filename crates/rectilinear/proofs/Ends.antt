@@ -1,7 +1,7 @@
 -- The ends of each axis of a rectilinear grid that is accepted are in order: holding twice is holding once (clause 3.7), and no query is marked at both (3.8). And
 -- what the marks of two tables over the same axes have in common.
 use mathlib.Core.Path.{◌≡◌, refl, sym, ◌∙◌}
-use mathlib.Core.Bool.{Bool, false}
+use mathlib.Core.Bool.{false}
 use mathlib.Core.List.{List, [], ◌∷◌}
 use Prim.Native.Nat.{ℕ, ◌-◌, ◌≤◌}
 use native.Mathlib.Omega.{arith}

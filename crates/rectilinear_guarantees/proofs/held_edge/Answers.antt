@@ -1,0 +1,20 @@
+-- The answer is the definition's own, what is lent fits the format, and the kind supplies the rows of a query past an end.
+use lib.Ieee.{binary64}
+use Rattle.multicubic.specs.declared.EdgeMode.TheVariants.{Held}
+use Rattle.grid.specs.Query.{at}
+use Rattle.guarantees.proofs.Typing.{array_fits}
+use Rattle.guarantees.proofs.Nodes.{held-edge}
+use Rattle.rectilinear_guarantees.proofs.Supplied.{supplied, clamped}
+use Rattle.rectilinear_guarantees.proofs.held_edge.Goals as goal
+
+pub returns : goal.returns
+returns c =
+    let vals = c.type_inv.vals in
+    let entries = c.type_inv.axes in
+    let a = c.args in
+    let x = c.well_formed.1.1.1.1.0 in
+    let answer = c.interp_one.ensures.answer_value in record {
+      held_edge = held-edge binary64 _ _ (supplied binary64 a.axis_count a.counts a.axes.now a.vals.now Held entries vals) (clamped binary64 a.axis_count a.counts a.axes.now a.vals.now entries)
+          (at a.x) (array_fits binary64 a.x x.0 x.1.1) _ answer;
+      answer_value = answer;
+    }
