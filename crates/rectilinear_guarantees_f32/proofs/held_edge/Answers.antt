@@ -1,0 +1,20 @@
+-- The answer is the definition's own, what is lent fits the format, and the kind supplies the rows of a query past an end.
+use lib.Ieee.{binary32}
+use Rattle.multicubic.specs.declared.EdgeMode.TheVariants.{Held}
+use Rattle.grid.specs.Query.{at}
+use Rattle.guarantees.proofs.Typing.{array_fits}
+use Rattle.guarantees.proofs.Nodes.{held-edge}
+use Rattle.rectilinear_guarantees.proofs.Supplied.{supplied, clamped}
+use Rattle.rectilinear_guarantees_f32.proofs.held_edge.Goals as goal
+
+pub returns : goal.returns
+returns c =
+    let vals = c.type_inv.vals in
+    let entries = c.type_inv.axes in
+    let a = c.args in
+    let x = c.well_formed.1.1.1.1.0 in
+    let answer = c.interp_one.ensures.answer_value in record {
+      held_edge = held-edge binary32 _ _ (supplied binary32 a.axis_count a.counts a.axes.now a.vals.now Held entries vals) (clamped binary32 a.axis_count a.counts a.axes.now a.vals.now entries)
+          (at a.x) (array_fits binary32 a.x x.0 x.1.1) _ answer;
+      answer_value = answer;
+    }

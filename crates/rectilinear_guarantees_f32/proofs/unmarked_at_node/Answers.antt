@@ -1,0 +1,16 @@
+-- The marks are the definition's own, and at a node those are unset.
+use mathlib.Core.Path.{◌∙◌}
+use lib.Ieee.{binary32}
+use Rattle.grid.specs.Query.{at}
+use Rattle.rectilinear_guarantees.proofs.Supplied.{at_nodes}
+use Rattle.rectilinear_guarantees_f32.proofs.unmarked_at_node.Goals as goal
+
+pub returns : goal.returns
+returns c =
+    let entries = c.type_inv.axes in
+    let a = c.args in
+    let marks = c.interp_one.ensures.marks_value in
+    record {
+      unmarked_at_node = λ node taken premises here. marks ∙ at_nodes binary32 a.axis_count a.counts a.axes.now a.vals.now a.mode entries (at a.x) node taken premises here;
+      marks_value = marks;
+    }
