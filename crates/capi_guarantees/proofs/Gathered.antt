@@ -55,7 +55,7 @@ unfolding regular_from
 unmarked-regular f n counts starts steps vals mode fit =
     let axes = axes_from counts starts steps in
     owed-unmarked f _ (set_by (regular_from f n counts starts steps vals) mode) (Reg.supplied f n axes vals (mode_of mode) (typed f vals fit)) (Reg.counted f n axes vals (mode_of mode) refl)
-    (Reg.at-nodes f n axes vals (mode_of mode))
+    (Reg.at_nodes f n axes vals (mode_of mode))
 
 pub unmarked-rectilinear : (f : Format) (n : ℕ) (counts : List ℕ) (axes : List Float) → UnmarkedRectilinear f n counts axes
 unfolding rectilinear_from
@@ -63,4 +63,4 @@ unmarked-rectilinear f n counts axes vals mode entries fit =
     let cs = counts_from counts in
     let fits = typed f axes entries in
     owed-unmarked f _ (set_by (rectilinear_from f n counts axes vals) mode) (Rect.supplied f n cs axes vals (mode_of mode) fits (typed f vals fit)) (Rect.counted f n cs axes vals (mode_of mode) refl)
-    (Rect.at-nodes f n cs axes vals (mode_of mode) fits)
+    (Rect.at_nodes f n cs axes vals (mode_of mode) fits)

@@ -16,10 +16,10 @@ regular-f32 g g' s =
     Owed.regular binary32 _ _ _ _ _ _ g.mode g'.mode s.same_count (ap as_axes s.same_four) (length-map g.axes as_axis ∙ s.long) s.held s.held'
 
 pub held_regular : HeldRegular
-held_regular g holds fit = Owed.held-regular binary64 g.axis_count g.axes g.vals.now g.mode holds fit
+held_regular g holds fit = Owed.held_regular binary64 g.axis_count g.axes g.vals.now g.mode holds fit
 
 pub held_regular_f32 : HeldRegularF32
-held_regular_f32 g holds fit = Owed.held-regular binary32 g.axis_count (as_axes g.axes) g.vals.now g.mode holds fit
+held_regular_f32 g holds fit = Owed.held_regular binary32 g.axis_count (as_axes g.axes) g.vals.now g.mode holds fit
 
 pub rectilinear : OwedRectilinear
 rectilinear g g' s = Owed.rectilinear binary64 _ _ _ _ _ _ _ _ g.mode g'.mode s
@@ -28,10 +28,10 @@ pub rectilinear-f32 : OwedRectilinearF32
 rectilinear-f32 g g' s = Owed.rectilinear binary32 _ _ _ _ _ _ _ _ g.mode g'.mode s
 
 pub held_rectilinear : HeldRectilinear
-held_rectilinear g holds entries fit = Owed.held-rectilinear binary64 g.axis_count g.counts g.axes.now g.vals.now g.mode holds entries fit
+held_rectilinear g holds entries fit = Owed.held_rectilinear binary64 g.axis_count g.counts g.axes.now g.vals.now g.mode holds entries fit
 
 pub held_rectilinear_f32 : HeldRectilinearF32
-held_rectilinear_f32 g holds entries fit = Owed.held-rectilinear binary32 g.axis_count g.counts g.axes.now g.vals.now g.mode holds entries fit
+held_rectilinear_f32 g holds entries fit = Owed.held_rectilinear binary32 g.axis_count g.counts g.axes.now g.vals.now g.mode holds entries fit
 
 -- clause 2.6
 pub rises_rectilinear : RisesRectilinear

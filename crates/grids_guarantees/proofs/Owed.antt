@@ -46,7 +46,7 @@ regular f n n' axes axes' vals vals' mode mode' same_count same-axes four fit fi
     let other = Regular.supplied f n' axes' vals' mode' (typed f vals' fit') in
     let counted-alike = subst (λ (k : ℕ). Supplied f (Reg.AllPremises (take k axes')) (Reg.grid_of f n' axes' vals' mode')) (sym same_count) other in
     let alike = subst (λ (l : List Axis). Supplied f (Reg.AllPremises (take n l)) (Reg.grid_of f n' axes' vals' mode')) (sym same-axes) counted-alike in
-    owed-kept (Regular.supplied f n axes vals mode (typed f vals fit)) alike (Regular.counted f n axes vals mode four) (Regular.at-nodes f n axes vals mode)
+    owed-kept (Regular.supplied f n axes vals mode (typed f vals fit)) alike (Regular.counted f n axes vals mode four) (Regular.at_nodes f n axes vals mode)
 
 pub held_regular : (f : Format) (n : ℕ) (axes : List Axis) (vals : List Float) (mode : EdgeMode) → mode ≡ Held → Fits f vals → HeldKept f (Reg.AllPremises (take n axes)) (Reg.grid_of f n axes vals mode)
 held_regular f n axes vals mode holds fit =
@@ -69,7 +69,7 @@ module _ (f : Format) (n n' : ℕ) (counts counts' : List ℕ) (axes axes' vals 
       let by-counts = subst (λ (cs : List ℕ). Supplied f (premises_of n cs axes') g') (sym s.same_four) by_count in
       let alike = subst (λ (l : List Float). Supplied f (premises_of n counts l) g') (sym s.same-joined) by-counts in
       owed-kept (Rectilinear.supplied f n counts axes vals mode joined (typed f vals s.held)) alike
-      (Rectilinear.counted f n counts axes vals mode s.long) (Rectilinear.at-nodes f n counts axes vals mode joined)
+      (Rectilinear.counted f n counts axes vals mode s.long) (Rectilinear.at_nodes f n counts axes vals mode joined)
 
 pub held_rectilinear : (f : Format) (n : ℕ) (counts : List ℕ) (axes vals : List Float) (mode : EdgeMode) → mode ≡ Held → Fits f axes → Fits f vals
     → HeldKept f (Rect.AllPremises f (axes_of (take n counts) axes)) (Rect.grid_of f n counts axes vals mode)

@@ -7,7 +7,6 @@ ghost use Rattle.std.specs.Prelude.{◌≡◌, length};
 use harness_batches::{Walk, with_tally};
 use harness_calls::{INTERP, INTERP_GRAD, same_outcome};
 use harness_calls_f32::{call_interp, call_interp_grad, same_float};
-use harness_corpus::columns;
 use harness_corpus_f32::GroupF32;
 use harness_words::{ENTRY, Tally};
 use harness_words_f32::float_of;

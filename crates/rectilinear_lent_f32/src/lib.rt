@@ -95,9 +95,7 @@ pub fn interp_one_grad(
             },
             marks: unmarked(),
         },
-        Outcome::Accepted => rectilinear_f32::interp_one_grad(
-            axis_count, counts, axes, vals, mode, x,
-        ),
+        Outcome::Accepted => rectilinear_f32::interp_one_grad(axis_count, counts, axes, vals, mode, x),
     }
 }
 

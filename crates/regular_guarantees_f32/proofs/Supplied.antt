@@ -33,4 +33,4 @@ clamped f n axes vals = Reg.clamped f n (as_axes axes) vals
 
 pub at_nodes : (f : Format) (n : ℕ) (axes : List AxisF32) (vals : List Float) (mode : EdgeMode) (query : ℕ → Float)
     → UnmarkedAtNode (AllPremises (take n (as_axes axes))) (grid_of f n (as_axes axes) vals mode) query (mark_answer (grid_of f n (as_axes axes) vals mode) query)
-at_nodes f n axes vals = Reg.at-nodes f n (as_axes axes) vals
+at_nodes f n axes vals = Reg.at_nodes f n (as_axes axes) vals

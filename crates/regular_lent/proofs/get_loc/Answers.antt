@@ -20,15 +20,3 @@ returns-in-Accepted c =
       c.get_loc.ensures.places_value ∙ (λ i. place_answer (grid i) (at a.x)),
       c.get_loc.ensures.marks_value ∙ (λ i. mark_answer (grid i) (at a.x)),
     )
-
-pub new-requires : goal.new-requires
-new-requires c = tt
-
-pub nowhere-requires : goal.nowhere-requires
-nowhere-requires c = tt
-
-pub unmarked-requires : goal.unmarked-requires
-unmarked-requires c = tt
-
-pub get_loc-requires : goal.get_loc-requires
-get_loc-requires c = tt

@@ -17,9 +17,3 @@ returns-in-Accepted c =
     let grid = whole (grid_of binary64 a.axis_count a.axes a.vals.now a.mode) c.in-Accepted.is in
     let called = c.interp.ensures in
     (called.value ∙ (λ i. interp_outcome binary64 (grid i) a.queries.now a.out.now), called.out_after ∙ (λ i. interp_buffer binary64 (grid i) a.queries.now a.out.now))
-
-pub new-requires : goal.new-requires
-new-requires c = tt
-
-pub interp-requires : goal.interp-requires
-interp-requires c = tt

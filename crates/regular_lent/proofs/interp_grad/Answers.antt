@@ -17,9 +17,3 @@ returns-in-Accepted c =
     let grid = whole (grid_of binary64 a.axis_count a.axes a.vals.now a.mode) c.in-Accepted.is in
     let called = c.interp_grad.ensures in
     (called.value ∙ (λ i. grad_outcome binary64 (grid i) a.queries.now a.out.now), called.out_after ∙ (λ i. grad_buffer binary64 (grid i) a.queries.now a.out.now))
-
-pub new-requires : goal.new-requires
-new-requires c = tt
-
-pub interp_grad-requires : goal.interp_grad-requires
-interp_grad-requires c = tt

@@ -16,12 +16,3 @@ returns-in-Accepted c =
     let e = c.interp_one_with_grad.ensures in
     whole-both binary64 (grid_of binary64 a.axis_count a.axes a.vals.now a.mode) a.x c.in-Accepted.is
     (e.answer_value, e.gradient_value, e.marks_value, e.taken_value)
-
-pub new-requires : goal.new-requires
-new-requires c = tt
-
-pub refused-requires : goal.refused-requires
-refused-requires c = tt
-
-pub interp_one_with_grad-requires : goal.interp_one_with_grad-requires
-interp_one_with_grad-requires c = tt

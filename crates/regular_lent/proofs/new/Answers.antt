@@ -5,9 +5,3 @@ use Rattle.regular_lent.proofs.new.Goals as goal
 
 pub returns : goal.returns
 returns c = c.earlier.ensures ∙ ap (earlier c.args.slices) c.new.ensures.value
-
-pub new-requires : goal.new-requires
-new-requires c = tt
-
-pub earlier-requires : goal.earlier-requires
-earlier-requires c = tt

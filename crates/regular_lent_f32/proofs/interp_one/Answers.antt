@@ -20,15 +20,3 @@ returns-in-Accepted c =
     let a = c.args in
     let grid = whole (grid_of binary32 a.axis_count a.axes a.vals.now a.mode) c.in-Accepted.is in
     (c.interp_one.ensures.answer_value ∙ (λ i. value_answer binary32 (grid i) (at a.x)), c.interp_one.ensures.marks_value ∙ (λ i. mark_answer (grid i) (at a.x)))
-
-pub new-requires : goal.new-requires
-new-requires c = tt
-
-pub answered-requires : goal.answered-requires
-answered-requires c = tt
-
-pub unmarked-requires : goal.unmarked-requires
-unmarked-requires c = tt
-
-pub interp_one-requires : goal.interp_one-requires
-interp_one-requires c = tt

@@ -21,12 +21,3 @@ returns-in-Accepted c =
       c.interp_one_grad.ensures.gradient_value ∙ (λ i. gradient_answer binary32 (grid i) (at a.x)),
       c.interp_one_grad.ensures.marks_value ∙ (λ i. mark_answer (grid i) (at a.x)),
     )
-
-pub new-requires : goal.new-requires
-new-requires c = tt
-
-pub unmarked-requires : goal.unmarked-requires
-unmarked-requires c = tt
-
-pub interp_one_grad-requires : goal.interp_one_grad-requires
-interp_one_grad-requires c = tt

@@ -37,15 +37,3 @@ returns-else-marks-axis_count c =
     ∙ sym c.check_slices-slices.ensures in
     c.in-Accepted.is ∙ roomy a.axis_count a.shortest a.query a.refusal a.room a.need a.marks
     (first ∙ c.in-Accepted.is) c.if-room-need.false c.if-marks-axis_count.false
-
-pub least-requires : goal.least-requires
-least-requires c = tt
-
-pub check_slices-slices-requires : goal.check_slices-slices-requires
-check_slices-slices-requires c = tt
-
-pub refused-requires : goal.refused-requires
-refused-requires c = tt
-
-pub refused-requires-then-marks-axis_count : goal.refused-requires-then-marks-axis_count
-refused-requires-then-marks-axis_count c = tt

@@ -15,9 +15,3 @@ returns-then-refusal-lt2 c = c.refused-then-refusal-lt2.ensures ∙ rw (le-ltb _
 pub returns : goal.returns
 unfolding slices_of
 returns c = rw (le-ltb _ _ c.if-shortest-axis_count.false, le-ltb _ _ c.if-refusal-lt2.false) refl
-
-pub refused-requires : goal.refused-requires
-refused-requires c = tt
-
-pub refused-requires-then-refusal-lt2 : goal.refused-requires-then-refusal-lt2
-refused-requires-then-refusal-lt2 c = tt

@@ -9,6 +9,3 @@ returns-in-Refused c = sym (ap (λ o. min (entries_of o c.args.n) 4) c.in-Refuse
 
 pub returns-in-Accepted : goal.returns-in-Accepted
 returns-in-Accepted c = c.least.ensures ∙ sym (ap (λ o. min (entries_of o c.args.n) 4) c.in-Accepted.is)
-
-pub least-requires : goal.least-requires
-least-requires c = tt

@@ -32,14 +32,5 @@ returns c =
     let e : l.i ≡ c.entries-stop.result = omega arith in
     over-end (mark_numbers a.pairs) a.marks.now (entries_of a.outcome a.n) (length-map a.pairs mark_number ∙ l.invariant.2) (e ∙ c.entries-stop.ensures) l.invariant.4
 
-pub entries-stop-requires : goal.entries-stop-requires
-entries-stop-requires c = tt
-
-pub mark_number-requires : goal.mark_number-requires
-mark_number-requires c = tt
-
-pub put_byte-requires : goal.put_byte-requires
-put_byte-requires c = tt
-
 pub shape_of-marks : goal.shape_of-marks
 shape_of-marks c = c.loop-i.invariant.3

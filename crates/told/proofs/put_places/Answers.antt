@@ -34,18 +34,6 @@ returns c =
       classes_after = over-end (class_numbers a.places) a.classes.now n (length-map a.places (λ (p : Place). class_number p.class) ∙ l.invariant.2) stop l.invariant.6;
     }
 
-pub entries-stop-requires : goal.entries-stop-requires
-entries-stop-requires c = tt
-
-pub put_count-requires : goal.put_count-requires
-put_count-requires c = tt
-
-pub class_number-requires : goal.class_number-requires
-class_number-requires c = tt
-
-pub put_byte-requires : goal.put_byte-requires
-put_byte-requires c = tt
-
 pub shape_of-origins : goal.shape_of-origins
 shape_of-origins c = c.loop-i.invariant.3
 

@@ -16,9 +16,3 @@ pub returns-in-Accepted : goal.returns-in-Accepted
 returns-in-Accepted c =
     let put = c in
     put.put_count-in-Accepted.ensures ∙ rw put.in-Accepted.is refl
-
-pub put_count-requires : goal.put_count-requires
-put_count-requires c = tt
-
-pub put_count-requires-in-Accepted : goal.put_count-requires-in-Accepted
-put_count-requires-in-Accepted c = tt

@@ -12,12 +12,3 @@ returns c =
     let written = places.put_places.ensures in
     left_marked {o = a.answer.answer.outcome} a.refusal.now a.n a.answer.marks a.marks.now tell.tell.ensures.value tell.tell.ensures.refusal_after
     refl (λ i. (written.origins_after i, written.classes_after i)) marks.put_marks.ensures
-
-pub put_places-requires : goal.put_places-requires
-put_places-requires c = tt
-
-pub put_marks-requires : goal.put_marks-requires
-put_marks-requires c = tt
-
-pub tell-requires : goal.tell-requires
-tell-requires c = tt

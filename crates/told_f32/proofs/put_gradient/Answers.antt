@@ -23,11 +23,5 @@ returns c =
     let e : l.i ≡ c.entries-stop.result = omega arith in
     over-end a.components a.gradient.now (entries_of a.outcome a.n) l.invariant.2 (e ∙ c.entries-stop.ensures) l.invariant.4
 
-pub entries-stop-requires : goal.entries-stop-requires
-entries-stop-requires c = tt
-
-pub put_float-requires : goal.put_float-requires
-put_float-requires c = tt
-
 pub shape_of-gradient : goal.shape_of-gradient
 shape_of-gradient c = c.loop-i.invariant.3

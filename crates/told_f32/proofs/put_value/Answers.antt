@@ -8,6 +8,3 @@ pub returns-in-Value : goal.returns-in-Value
 returns-in-Value c =
     let a = c.args in
     c.put_float.ensures ∙ sym (ap (λ b. with_value (as_answer b) a.value.now) c.in-Value.is)
-
-pub put_float-requires : goal.put_float-requires
-put_float-requires c = tt

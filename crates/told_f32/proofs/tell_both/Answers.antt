@@ -17,24 +17,3 @@ returns c =
     a.refusal.now a.value.now a.gradient.now a.sums.now a.marks.now
     tell.tell.ensures.value tell.tell.ensures.refusal_after outcome.outcome_of-outcome.ensures number.number.ensures
     value.put_value.ensures gradient.put_gradient.ensures sums.put_sums.ensures marks.put_marks.ensures
-
-pub outcome_of-outcome-requires : goal.outcome_of-outcome-requires
-outcome_of-outcome-requires c = tt
-
-pub put_value-requires : goal.put_value-requires
-put_value-requires c = tt
-
-pub put_gradient-requires : goal.put_gradient-requires
-put_gradient-requires c = tt
-
-pub put_marks-requires : goal.put_marks-requires
-put_marks-requires c = tt
-
-pub number-requires : goal.number-requires
-number-requires c = tt
-
-pub put_sums-requires : goal.put_sums-requires
-put_sums-requires c = tt
-
-pub tell-requires : goal.tell-requires
-tell-requires c = tt

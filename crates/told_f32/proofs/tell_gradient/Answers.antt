@@ -11,12 +11,3 @@ returns c =
     let a = gradient.args in
     left_marked {o = a.answer.answer.outcome} a.refusal.now a.n a.answer.marks a.marks.now tell.tell.ensures.value tell.tell.ensures.refusal_after
     refl gradient.put_gradient.ensures marks.put_marks.ensures
-
-pub put_gradient-requires : goal.put_gradient-requires
-put_gradient-requires c = tt
-
-pub put_marks-requires : goal.put_marks-requires
-put_marks-requires c = tt
-
-pub tell-requires : goal.tell-requires
-tell-requires c = tt

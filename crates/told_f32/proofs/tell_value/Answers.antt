@@ -11,15 +11,3 @@ returns c =
     let a = outcome.args in
     left_marked a.refusal.now a.n a.answer.marks a.marks.now tell.tell.ensures.value tell.tell.ensures.refusal_after
     outcome.outcome_of-outcome.ensures value.put_value.ensures marks.put_marks.ensures
-
-pub outcome_of-outcome-requires : goal.outcome_of-outcome-requires
-outcome_of-outcome-requires c = tt
-
-pub put_value-requires : goal.put_value-requires
-put_value-requires c = tt
-
-pub put_marks-requires : goal.put_marks-requires
-put_marks-requires c = tt
-
-pub tell-requires : goal.tell-requires
-tell-requires c = tt

@@ -1,0 +1,27 @@
+-- The gradient is told and written, with its marks.
+use lib.Ieee.{binary64}
+use Rattle.slices.specs.Lent.{set_by}
+use Rattle.regular_lent.specs.Regular.{regular_from}
+use Rattle.regular_lent.proofs.Gathering.{lent-to-query}
+use Rattle.capi.proofs.Laws.{interp-one-grad-leaves}
+use Rattle.capi.proofs.veltzuma_regular_interp_one_grad.Goals as goal
+
+pub returns : goal.returns
+unfolding regular_from
+returns c =
+    let tell = c in
+    let asked = tell in
+    let mode = asked in
+    let query = mode in
+    let axes = query in
+    let slices = axes in
+    let named = slices in
+    let shortest = named in
+    let a = shortest.args in
+    let lent = lent-to-query binary64 a.axis_count a.counts.now a.starts.now a.steps.now a.vals.now
+    axes.axes_from-axes.ensures a.mode mode.mode_of.ensures named.named-shortest.ensures shortest.shortest_of.ensures
+    _ _ _ _ _ slices.check_query_slices-slices.ensures in
+    interp-one-grad-leaves
+    (set_by (regular_from binary64 a.axis_count a.counts.now a.starts.now a.steps.now a.vals.now) a.mode)
+    a.x.now a.refusal.now a.marks.now query.query_from-at.ensures binary64 a.gradient.now
+    lent tell.tell_gradient.ensures asked.interp_one_grad-answer.ensures
