@@ -311,7 +311,9 @@ pub extern "C" fn veltzuma_rectilinear_interp_f32(
         (set_by (rectilinear_from binary32 axis_count counts.now axes.now vals.now) mode)
         queries.now refusal.old out.old }
 {
-    capi_f32::veltzuma_rectilinear_interp_f32(axis_count, counts, axes, vals, mode, queries, refusal, out)
+    capi_f32::veltzuma_rectilinear_interp_f32(
+        axis_count, counts, axes, vals, mode, queries, refusal, out,
+    )
 }
 
 // The gradients of a batch. Of a component that is a NaN the contract says that it is one, and leaves its payload open.

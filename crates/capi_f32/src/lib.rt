@@ -149,7 +149,14 @@ pub extern "C" fn veltzuma_regular_interp_one_grad_f32(
     );
     let axes = axes_from(counts, starts, steps);
     let at = query_from(x);
-    let answer = regular_lent_f32::interp_one_grad(slices, axis_count, axes, vals, mode_of(mode), at);
+    let answer = regular_lent_f32::interp_one_grad(
+        slices,
+        axis_count,
+        axes,
+        vals,
+        mode_of(mode),
+        at,
+    );
     tell_gradient(answer, axis_count, refusal, gradient, marks)
 }
 
@@ -213,7 +220,15 @@ pub extern "C" fn veltzuma_regular_interp_f32(
     let shortest = named(mode, shortest_of(counts.len(), starts.len(), steps.len()));
     let slices = check_slices(axis_count, shortest, refusal.len());
     let axes = axes_from(counts, starts, steps);
-    let outcome = regular_lent_f32::interp(slices, axis_count, axes, vals, mode_of(mode), queries, out);
+    let outcome = regular_lent_f32::interp(
+        slices,
+        axis_count,
+        axes,
+        vals,
+        mode_of(mode),
+        queries,
+        out,
+    );
     tell(outcome, refusal)
 }
 
@@ -300,7 +315,15 @@ pub extern "C" fn veltzuma_rectilinear_get_loc_f32(
     );
     let four = counts_from(counts);
     let at = query_from(x);
-    let answer = rectilinear_lent_f32::get_loc(slices, axis_count, four, axes, vals, mode_of(mode), at);
+    let answer = rectilinear_lent_f32::get_loc(
+        slices,
+        axis_count,
+        four,
+        axes,
+        vals,
+        mode_of(mode),
+        at,
+    );
     tell_places(answer, axis_count, refusal, origins, classes, marks)
 }
 

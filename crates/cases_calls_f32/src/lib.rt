@@ -25,7 +25,13 @@ fn axis(step: f32, count: usize) -> AxisF32 {
 }
 
 // A grid, with buffers for two queries on two axes.
-fn grid(mode: EdgeMode, rectilinear: bool, n: usize, counts: [usize; 4], axes: [AxisF32; 4]) -> GroupF32 {
+fn grid(
+    mode: EdgeMode,
+    rectilinear: bool,
+    n: usize,
+    counts: [usize; 4],
+    axes: [AxisF32; 4],
+) -> GroupF32 {
     GroupF32 {
         state: 0,
         rectilinear,

@@ -4,7 +4,10 @@
 #![tactic(auto)]
 
 use cases_calls::{Score, answer_of, told, walk};
-use cases_calls_f32::{answered, cubic, held, kept, not_placed, rectilinear, refused_batch, regular, regular_from, with_buffers, zeros};
+use cases_calls_f32::{
+    answered, cubic, held, kept, not_placed, rectilinear, refused_batch, regular, regular_from,
+    with_buffers, zeros,
+};
 use cases_marks_f32::marked_cases;
 use cases_missing_f32::missing_cases;
 use cases_refusals_f32::refusals;
@@ -30,18 +33,7 @@ fn cubes_on(
 ) -> io::Result<Score> {
     let x = [0.0, 1.0, 2.0, 3.0];
     let v = [0.0, 1.0, 8.0, 27.0];
-    let s = answered(
-        rt,
-        s,
-        g,
-        &x,
-        &v,
-        1.5,
-        0,
-        0x4058_0000,
-        0x40C8_0000,
-        at_1_5,
-    )?;
+    let s = answered(rt, s, g, &x, &v, 1.5, 0, 0x4058_0000, 0x40C8_0000, at_1_5)?;
     answered(rt, s, g, &x, &v, 4.0, 4, value, slope, at_4)
 }
 
@@ -570,18 +562,7 @@ fn kept_on(
     let x = [0.0, 1.0, 2.0, 3.0];
     let v = [0.0, 1.0, 8.0, 27.0];
     let s = kept(rt, s, g, &x, &v, 1.5, 0, 0x4058_0000, 0, at_1_5)?;
-    let s = kept(
-        rt,
-        s,
-        held(g),
-        &x,
-        &v,
-        9.0,
-        0,
-        0x41D8_0000,
-        2,
-        held_at_9,
-    )?;
+    let s = kept(rt, s, held(g), &x, &v, 9.0, 0, 0x41D8_0000, 2, held_at_9)?;
     let s = kept(
         rt,
         s,

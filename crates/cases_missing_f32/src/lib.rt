@@ -3,7 +3,10 @@
 #![tactic(auto)]
 
 use cases_calls::{Score, answer_of, told, walk};
-use cases_calls_f32::{cubic, held, kept, not_placed, rectilinear, refused_batch, regular, regular_from, with_buffers, zeros};
+use cases_calls_f32::{
+    cubic, held, kept, not_placed, rectilinear, refused_batch, regular, regular_from, with_buffers,
+    zeros,
+};
 use harness_batches_f32::{marked_words, run_batches};
 use harness_corpus::refusal;
 use harness_corpus_f32::{GroupF32, part};

@@ -3,7 +3,10 @@
 #![tactic(auto)]
 
 use cases_calls::Score;
-use cases_calls_f32::{answered, held, rectilinear, rectilinear_refused, rectilinear_refused_order, rectilinear_taken, refused_asked, regular_from, regular_refused, regular_taken, taken, with_buffers};
+use cases_calls_f32::{
+    answered, held, rectilinear, rectilinear_refused, rectilinear_refused_order, rectilinear_taken,
+    refused_asked, regular_from, regular_refused, regular_taken, taken, with_buffers,
+};
 use harness_words_f32::{bits_of, float_of};
 use std::io;
 

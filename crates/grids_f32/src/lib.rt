@@ -171,7 +171,10 @@ pub fn rectilinear_get_loc<'a, 'b>(g: MulticubicRectilinearF32<'a, 'b>, x: [f32;
 }
 
 // The value at a query, or the refusal. Of a value that is a NaN the contract says that it is one, and leaves its payload open.
-pub fn rectilinear_interp_one<'a, 'b>(g: MulticubicRectilinearF32<'a, 'b>, x: [f32; 4]) -> MarkedAnswerF32
+pub fn rectilinear_interp_one<'a, 'b>(
+    g: MulticubicRectilinearF32<'a, 'b>,
+    x: [f32; 4],
+) -> MarkedAnswerF32
     ensures answer_value { as_answer result.answer ≡ value_answer binary32 (kept_rectilinear binary32 g.entry) (at x) }
     ensures marks_value { result.marks ≡ mark_answer (kept_rectilinear binary32 g.entry) (at x) }
     ensures says { Says (answer_outcome (as_answer result.answer)) (outcome_of (kept_rectilinear binary32 g.entry) (at x)) }

@@ -8,7 +8,9 @@ use harness_corpus_f32::GroupF32;
 use harness_words::{COMPONENT, Tally, VALUE, same};
 use harness_words_f32::{bits_of, float_of};
 use multicubic::{MarkedPlaces, Outcome};
-use multicubic_f32::{AnswerF32, GradientAnswerF32, MarkedAnswerF32, MarkedGradientF32, outcome_of};
+use multicubic_f32::{
+    AnswerF32, GradientAnswerF32, MarkedAnswerF32, MarkedGradientF32, outcome_of,
+};
 
 pub fn call_new(g: GroupF32, axes: &[f32], vals: &[f32]) -> Outcome {
     let n = g.n;
@@ -42,7 +44,12 @@ pub fn call_interp_one(g: GroupF32, axes: &[f32], vals: &[f32], x: [f32; 4]) -> 
     regular_f32::interp_one(n, regular_axes, vals, mode, x)
 }
 
-pub fn call_interp_one_grad(g: GroupF32, axes: &[f32], vals: &[f32], x: [f32; 4]) -> MarkedGradientF32 {
+pub fn call_interp_one_grad(
+    g: GroupF32,
+    axes: &[f32],
+    vals: &[f32],
+    x: [f32; 4],
+) -> MarkedGradientF32 {
     let n = g.n;
     let mode = g.mode;
     if g.rectilinear {

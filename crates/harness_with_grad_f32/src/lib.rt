@@ -3,7 +3,9 @@
 #![tactic(auto)]
 
 use harness_calls::{INTERP_ONE, INTERP_ONE_WITH_GRAD, same_places};
-use harness_calls_f32::{call_get_loc, call_interp_one, call_interp_one_grad, same_components, same_gradient, same_value};
+use harness_calls_f32::{
+    call_get_loc, call_interp_one, call_interp_one_grad, same_components, same_gradient, same_value,
+};
 use harness_corpus::Expected;
 use harness_corpus_f32::GroupF32;
 use harness_with_grad::sums_of;

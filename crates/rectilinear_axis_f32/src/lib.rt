@@ -13,7 +13,9 @@ ghost use Rattle.rectilinear_axis.specs.Weights.{weights_of, derivatives_of, cel
 
 use interp_math_f32::{hermite_basis, hermite_basis_derivative, scale_weights};
 use multicubic::{Loc, Marks, Place, Saturation, place_from};
-use rectilinear_weights_f32::{high_weight_derivatives, high_weights, interior, low_weight_derivatives, low_weights};
+use rectilinear_weights_f32::{
+    high_weight_derivatives, high_weights, interior, low_weight_derivatives, low_weights,
+};
 
 // 1 where the entry is below v, else 0: as a number, so that the search's next step is no branch.
 fn entry_below(grid: &[f32], at: usize, v: f32) -> usize

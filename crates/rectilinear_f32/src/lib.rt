@@ -12,8 +12,13 @@ ghost use Rattle.rectilinear_query.specs.Internal.{Taken, Ready};
 ghost use Rattle.multicubic_f32.specs.Same.{as_answer};
 
 use grid::Quantity;
-use multicubic::{AxesLength, EdgeMode, Loc, MarkedPlaces, Outcome, PlaceAnswer, check_sizes, nowhere, place_outcome, unplaced};
-use multicubic_f32::{AnswerF32, GradientAnswerF32, MarkedAnswerF32, MarkedGradientF32, answered, outcome_of};
+use multicubic::{
+    AxesLength, EdgeMode, Loc, MarkedPlaces, Outcome, PlaceAnswer, check_sizes, nowhere,
+    place_outcome, unplaced,
+};
+use multicubic_f32::{
+    AnswerF32, GradientAnswerF32, MarkedAnswerF32, MarkedGradientF32, answered, outcome_of,
+};
 use rectilinear_axis_f32::hold;
 use rectilinear_order_f32::check_order;
 use rectilinear_query_f32::{answer_at, marks_of, replaced_at};

@@ -45,7 +45,9 @@ pub fn alone(
 {
     let value = rectilinear_f32::interp_one(axis_count, counts, axes, vals, mode, x);
     let gradient = rectilinear_f32::interp_one_grad(axis_count, counts, axes, vals, mode, x);
-    let other_value = rectilinear_f32::interp_one(axis_count, counts, axes, other_vals, other_mode, x);
+    let other_value = rectilinear_f32::interp_one(
+        axis_count, counts, axes, other_vals, other_mode, x,
+    );
     let other_gradient = rectilinear_f32::interp_one_grad(
         axis_count, counts, axes, other_vals, other_mode, x,
     );

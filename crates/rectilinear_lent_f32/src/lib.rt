@@ -95,7 +95,9 @@ pub fn interp_one_grad(
             },
             marks: unmarked(),
         },
-        Outcome::Accepted => rectilinear_f32::interp_one_grad(axis_count, counts, axes, vals, mode, x),
+        Outcome::Accepted => rectilinear_f32::interp_one_grad(
+            axis_count, counts, axes, vals, mode, x,
+        ),
     }
 }
 

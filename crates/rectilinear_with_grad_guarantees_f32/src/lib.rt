@@ -44,7 +44,9 @@ pub fn alone(
     ensures together_of_2 { TogetherOf binary32 (grid_of binary32 axis_count counts axes.now other_vals.now other_mode) (at x)
         (as_answer result.other.answer) result.other.gradient result.other.marks result.other.sums.taken }
 {
-    let own = rectilinear_with_grad_f32::interp_one_with_grad(axis_count, counts, axes, vals, mode, x);
+    let own = rectilinear_with_grad_f32::interp_one_with_grad(
+        axis_count, counts, axes, vals, mode, x,
+    );
     let other = rectilinear_with_grad_f32::interp_one_with_grad(
         axis_count, counts, axes, other_vals, other_mode, x,
     );
@@ -64,7 +66,14 @@ pub fn held_edge(
     ensures together_of { TogetherOf binary32 (grid_of binary32 axis_count counts axes.now vals.now Held) (at x)
         (as_answer result.answer) result.gradient result.marks result.sums.taken }
 {
-    rectilinear_with_grad_f32::interp_one_with_grad(axis_count, counts, axes, vals, EdgeMode::Held, x)
+    rectilinear_with_grad_f32::interp_one_with_grad(
+        axis_count,
+        counts,
+        axes,
+        vals,
+        EdgeMode::Held,
+        x,
+    )
 }
 
 // Clause 8.8: a query at a node has no mark on any axis.
@@ -100,7 +109,9 @@ pub fn as_apart(
 {
     let value = rectilinear_f32::interp_one(axis_count, counts, axes, vals, mode, x);
     let gradient = rectilinear_f32::interp_one_grad(axis_count, counts, axes, vals, mode, x);
-    let both = rectilinear_with_grad_f32::interp_one_with_grad(axis_count, counts, axes, vals, mode, x);
+    let both = rectilinear_with_grad_f32::interp_one_with_grad(
+        axis_count, counts, axes, vals, mode, x,
+    );
     ApartAndTogetherF32 {
         value,
         gradient,

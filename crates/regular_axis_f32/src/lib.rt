@@ -224,7 +224,12 @@ pub fn weights_at(axis: AxisF32, v: f32, place: Place, linearize_extrapolation: 
 }
 
 // Its derivative weights.
-pub fn derivatives_at(axis: AxisF32, v: f32, place: Place, linearize_extrapolation: bool) -> [f32; 4]
+pub fn derivatives_at(
+    axis: AxisF32,
+    v: f32,
+    place: Place,
+    linearize_extrapolation: bool,
+) -> [f32; 4]
     requires { place.origin < 4096 }
     ensures { result ≡ derivatives_at binary32 axis.start axis.step linearize_extrapolation v place }
 {

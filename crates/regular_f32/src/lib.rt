@@ -13,8 +13,13 @@ ghost use Rattle.regular_query_f32.specs.Internal.{Taken, Ready};
 ghost use Rattle.multicubic_f32.specs.Same.{as_answer, as_axes};
 
 use grid::Quantity;
-use multicubic::{AxesLength, EdgeMode, Loc, MarkedPlaces, Outcome, PlaceAnswer, check_sizes, nowhere, place_outcome, unplaced};
-use multicubic_f32::{AnswerF32, AxisF32, GradientAnswerF32, MarkedAnswerF32, MarkedGradientF32, answered, outcome_of};
+use multicubic::{
+    AxesLength, EdgeMode, Loc, MarkedPlaces, Outcome, PlaceAnswer, check_sizes, nowhere,
+    place_outcome, unplaced,
+};
+use multicubic_f32::{
+    AnswerF32, AxisF32, GradientAnswerF32, MarkedAnswerF32, MarkedGradientF32, answered, outcome_of,
+};
 use reduction::strides;
 use regular_axis_f32::hold;
 use regular_query_f32::{answer_at, counts_of, marks_of, replaced_at};

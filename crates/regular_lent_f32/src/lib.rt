@@ -143,6 +143,8 @@ pub fn interp_grad(
 {
     match slices {
         Outcome::Refused { .. } => new(slices, axis_count, axes, vals),
-        Outcome::Accepted => regular_batch_f32::interp_grad(axis_count, axes, vals, mode, queries, out),
+        Outcome::Accepted => regular_batch_f32::interp_grad(
+            axis_count, axes, vals, mode, queries, out,
+        ),
     }
 }

@@ -14,7 +14,9 @@ ghost use Rattle.regular_query_f32.specs.Internal.{Taken, Ready};
 ghost use Rattle.multicubic_f32.specs.Same.{as_answer, as_axis, as_axes};
 
 use grid::{Quantity, is_component};
-use multicubic::{EdgeMode, Loc, Marks, Outcome, Place, is_past, linearize_extrapolation, place_outcome, unmarked};
+use multicubic::{
+    EdgeMode, Loc, Marks, Outcome, Place, is_past, linearize_extrapolation, place_outcome, unmarked,
+};
 use multicubic_f32::{AnswerF32, AxisF32, answered};
 use reduction_f32::{reduce1, reduce2, reduce3, reduce4};
 use regular_axis_f32::{derivatives_at, get_loc, hold, marks_at, weights_at};

@@ -51,7 +51,12 @@ pub fn alone(
 }
 
 // Clause 8.6: a query past the ends, or at nodes, of a grid that holds its edges.
-pub fn held_edge(axis_count: usize, axes: [AxisF32; 4], vals: &[f32], x: [f32; 4]) -> ValueAndGradientF32
+pub fn held_edge(
+    axis_count: usize,
+    axes: [AxisF32; 4],
+    vals: &[f32],
+    x: [f32; 4],
+) -> ValueAndGradientF32
     ensures held_edge { HeldEdge (AllPremises (take axis_count (as_axes axes)))
         (grid_of binary32 axis_count (as_axes axes) vals.now Held) (at x) (as_answer result.answer) }
     ensures together_of { TogetherOf binary32 (grid_of binary32 axis_count (as_axes axes) vals.now Held) (at x)

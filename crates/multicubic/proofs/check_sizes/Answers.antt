@@ -24,9 +24,9 @@ returns-then-any_over c =
 
 pub product_of-size-requires : goal.product_of-size-requires
 product_of-size-requires c = record {
-      n_bound = search rules;
-      counts_value = sym c.any_over.ensures ∙ c.if-any_over.false;
-    }
+  n_bound = search rules;
+  counts_value = sym c.any_over.ensures ∙ c.if-any_over.false;
+}
 
 pub returns-then-size-gt1048576 : goal.returns-then-size-gt1048576
 returns-then-size-gt1048576 c =

@@ -4,6 +4,6 @@ use Rattle.multicubic.proofs.unplaced.Goals as goal
 
 pub returns : goal.returns
 returns c = record {
-      outcome_value = refl;
-      places_value = c.nowhere.ensures;
-    }
+  outcome_value = refl;
+  places_value = c.nowhere.ensures;
+}

@@ -10,9 +10,9 @@ loop-k-init c = (omega arith, (omega arith, c.requires.lo_bound, inl (omega arit
 
 pub entry_below-n-requires : goal.entry_below-n-requires
 entry_below-n-requires c = record {
-      at_in_bounds = omega arith;
-      grid_value = c.requires.grid_value;
-    }
+  at_in_bounds = omega arith;
+  grid_value = c.requires.grid_value;
+}
 
 pub overflow_add-n : goal.overflow_add-n
 overflow_add-n c = omega (arith, test_upto _ _ _ c.entry_below-n.ensures)

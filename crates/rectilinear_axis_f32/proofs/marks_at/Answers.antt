@@ -4,6 +4,6 @@ use Rattle.rectilinear_axis_f32.proofs.marks_at.Goals as goal
 
 pub returns : goal.returns
 returns c = record {
-      below_value = refl;
-      above_value = refl;
-    }
+  below_value = refl;
+  above_value = refl;
+}

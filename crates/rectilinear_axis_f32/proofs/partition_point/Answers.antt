@@ -12,10 +12,10 @@ loop-size-init c =
 
 pub forward-lo-requires : goal.forward-lo-requires
 forward-lo-requires c = record {
-      q_in_bounds = omega arith;
-      grid_value = c.requires;
-      lo_bound = c.loop-size.invariant.1;
-    }
+  q_in_bounds = omega arith;
+  grid_value = c.requires;
+  lo_bound = c.loop-size.invariant.1;
+}
 
 pub loop-size-preserved : goal.loop-size-preserved
 loop-size-preserved c =

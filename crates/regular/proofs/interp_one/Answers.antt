@@ -23,7 +23,7 @@ returns c =
     let w = c.find_value-answer.ensures in record {
       answer_value = w.result_value;
       marks_value = marks_beside_lem (grid_of binary64 a.axis_count a.axes a.vals.now a.mode) (at a.x) _ _
-            (c.outcome_of.ensures ∙ ap answer_outcome w.result_value ∙ outcome_of_lem _ _) (c.marks_of-marks.ensures a.mode);
+          (c.outcome_of.ensures ∙ ap answer_outcome w.result_value ∙ outcome_of_lem _ _) (c.marks_of-marks.ensures a.mode);
       says = w.says;
       answer_value_2 = w.result_value_2;
     }

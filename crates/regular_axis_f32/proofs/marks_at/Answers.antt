@@ -4,6 +4,6 @@ use Rattle.regular_axis_f32.proofs.marks_at.Goals as goal
 
 pub returns : goal.returns
 returns c = record {
-      below_value = rw c.first_node.ensures refl;
-      above_value = rw c.last_node.ensures refl;
-    }
+  below_value = rw c.first_node.ensures refl;
+  above_value = rw c.last_node.ensures refl;
+}

@@ -11,10 +11,10 @@ loop-i-init c = (omega arith, refl, refl, c.requires.queries_len, filling_none _
 
 pub answer_at-answer-requires : goal.answer_at-answer-requires
 answer_at-answer-requires c = record {
-      ready = c.requires.ready;
-      i_lt_count = (c.loop-i-test.true, omega (arith, c.loop-i.invariant.3));
-      asked = c.requires.asked;
-    }
+  ready = c.requires.ready;
+  i_lt_count = (c.loop-i-test.true, omega (arith, c.loop-i.invariant.3));
+  asked = c.requires.asked;
+}
 
 pub shape_of-out-in-Refused : goal.shape_of-out-in-Refused
 shape_of-out-in-Refused c = c.loop-i.invariant.4.same_length

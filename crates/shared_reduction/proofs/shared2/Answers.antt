@@ -62,18 +62,18 @@ returns c =
 
 pub shared1-v0-requires : goal.shared1-v0-requires
 shared1-v0-requires c = record {
-      strides_in_bounds = room c 0 (lit< tt);
-      steps_of_bound = omega (arith, c.requires.steps_of_bound);
-    }
+  strides_in_bounds = room c 0 (lit< tt);
+  steps_of_bound = omega (arith, c.requires.steps_of_bound);
+}
 
 pub shared1-v1-requires : goal.shared1-v1-requires
 shared1-v1-requires c = record {
-      strides_in_bounds = room (goal.at.shared1-v1-requires c).After-along-at 1 (lit< tt);
-      steps_of_bound = omega (arith, c.requires.steps_of_bound, c.shared1-v0.ensures.taken_value);
-    }
+  strides_in_bounds = room (goal.at.shared1-v1-requires c).After-along-at 1 (lit< tt);
+  steps_of_bound = omega (arith, c.requires.steps_of_bound, c.shared1-v0.ensures.taken_value);
+}
 
 pub shared1-v2-requires : goal.shared1-v2-requires
 shared1-v2-requires c = record {
-      strides_in_bounds = room (goal.at.shared1-v2-requires c).After-along-at 2 (lit< tt);
-      steps_of_bound = omega (arith, c.requires.steps_of_bound, c.shared1-v0.ensures.taken_value, c.shared1-v1.ensures.taken_value);
-    }
+  strides_in_bounds = room (goal.at.shared1-v2-requires c).After-along-at 2 (lit< tt);
+  steps_of_bound = omega (arith, c.requires.steps_of_bound, c.shared1-v0.ensures.taken_value, c.shared1-v1.ensures.taken_value);
+}

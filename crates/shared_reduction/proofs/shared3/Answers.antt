@@ -62,18 +62,18 @@ returns c =
 
 pub shared2-v0-requires : goal.shared2-v0-requires
 shared2-v0-requires c = record {
-      strides_in_bounds = room c 0 (lit< tt);
-      steps_of_bound = omega (arith, c.requires.steps_of_bound);
-    }
+  strides_in_bounds = room c 0 (lit< tt);
+  steps_of_bound = omega (arith, c.requires.steps_of_bound);
+}
 
 pub shared2-v1-requires : goal.shared2-v1-requires
 shared2-v1-requires c = record {
-      strides_in_bounds = room (goal.at.shared2-v1-requires c).After-along-at 1 (lit< tt);
-      steps_of_bound = omega (arith, c.requires.steps_of_bound, c.shared2-v0.ensures.taken_value);
-    }
+  strides_in_bounds = room (goal.at.shared2-v1-requires c).After-along-at 1 (lit< tt);
+  steps_of_bound = omega (arith, c.requires.steps_of_bound, c.shared2-v0.ensures.taken_value);
+}
 
 pub shared2-v2-requires : goal.shared2-v2-requires
 shared2-v2-requires c = record {
-      strides_in_bounds = room (goal.at.shared2-v2-requires c).After-along-at 2 (lit< tt);
-      steps_of_bound = omega (arith, c.requires.steps_of_bound, c.shared2-v0.ensures.taken_value, c.shared2-v1.ensures.taken_value);
-    }
+  strides_in_bounds = room (goal.at.shared2-v2-requires c).After-along-at 2 (lit< tt);
+  steps_of_bound = omega (arith, c.requires.steps_of_bound, c.shared2-v0.ensures.taken_value, c.shared2-v1.ensures.taken_value);
+}
