@@ -198,7 +198,7 @@ class Batches(InFolder):
                 found, grid = files.read_table(self.write(text), width), direct(text, width)
                 queries = self.near(found)
                 numbers = array.array(floats.CODE[width], [coordinate for x in queries for coordinate in x])
-                for size in (1, 7, 1500):
+                for size in (7, 1500):
                     out, size = io.StringIO(), size * len(found.axes)
                     refused = evaluate.write(found, found.grid(veltzuma.load()), [numbers[i:i + size] for i in range(0, len(numbers), size)], mode, False, False, out)
                     rows = read(out.getvalue())[1]
@@ -216,42 +216,19 @@ class Batches(InFolder):
                         self.assertEqual(row, cells, (x, mode, width))
                     self.assertEqual(refused, 0)
 
-    def test_as_answered_alone(self):
-        """As each query is answered for the plots, value and slopes in one call."""
+    def test_as_before(self):
+        """As each query was asked before there were batches of lines."""
         for text, width, mode in itertools.product((REGULAR, RECTILINEAR), ('f64', 'f32'), MODES):
             found = files.read_table(self.write(text), width)
             grid, queries = found.grid(veltzuma.load()), self.near(found)[:500]
             given = '\n'.join(','.join(floats.show(number, width) for number in x) for x in queries).encode()
             rows = read(run('eval', self.write(text), '--mode', mode, '--width', width, stdin=given)[1])[1]
-            for row, (x, value, slopes, marks, refusal) in zip(rows, evaluate.answers(found, grid, queries, mode)):
-                self.assertEqual(row[len(x):2 * len(x) + 1], [''] * (1 + len(x)) if refusal else [floats.show(number, width) for number in [value, *slopes]])
+            for row, (x, value, slopes, places, refusal) in zip(rows, evaluate.answers(found, grid, queries, mode)):
+                self.assertEqual(row[len(x):2 * len(x) + 1], [''] * (1 + len(x)) if refusal else [floats.show(number, width) for number in [*value, *slopes]])
                 self.assertEqual(row[-1], refusal or '')
                 if not refusal:
-                    self.assertEqual(row[-1 - len(x):-1], ['below' if mark.below else 'above' if mark.above else '' for mark in marks])
-
-    def test_which_calls(self):
-        """Value and slopes of one query are asked in one call, of several in two batches; so is one where bits are shown, those of a NaN among them. For
-        --values there is no slope to ask for."""
-        names = ('interp', 'interp_grad', 'interp_one_with_grad', 'interp_one', 'interp_one_grad')
-        for text, good, bad in ((REGULAR, [-1.25, 12.7], [math.inf, 1.0]), (RECTILINEAR, [1.0, 12.0, 0.5], [1.0, math.nan, 0.5])):
-            for width, alone, in_bits, (part, together, single) in itertools.product(('f64', 'f32'), (False, True), (False, True), (
-                    ([good], 0, 1), ([bad], 0, 1), ([good, good], 1, 0), ([good, bad], 1, 0), ([good, bad, good], 1, 1), ([bad, good], 1, 1), ([bad, bad, bad], 2, 1))):
-                found = files.read_table(self.write(text), width)
-                grid, made, out = found.grid(veltzuma.load()), dict.fromkeys(names, 0), io.StringIO()
-                for name in names:
-                    def counted(*given, name=name, call=getattr(grid, name)):
-                        made[name] += 1
-                        return call(*given)
-
-                    setattr(grid, name, counted)
-                numbers = array.array(floats.CODE[width], [coordinate for x in part for coordinate in x])
-                evaluate.write(found, grid, [numbers], 'cubic', in_bits, alone, out)
-                expected = [together + single, 0, 0] if alone else [together + single, together + single, 0] if in_bits else [together, together, single]
-                self.assertEqual(list(made.values()), expected + [0, 0], (part, alone, in_bits))
-                # As the same query is answered among others.
-                rows = read(out.getvalue())[1]
-                self.assertEqual([bool(row[-1]) for row in rows], [x is bad for x in part])
-                self.assertEqual(len({tuple(row) for row in rows}), len({tuple(x) for x in part}))
+                    self.assertEqual(row[2 * len(x) + 1:-1], [str(cell) for place in places for cell in place[:2]]
+                                     + ['below' if place.below else 'above' if place.above else '' for place in places])
 
     def test_values(self):
         """The value alone, beside the refusal; as decimals and as bits."""
@@ -369,22 +346,18 @@ class Refused(InFolder):
         class Refusing:
             def interp(self, *_):
                 raise veltzuma.Refusal(self.number, 0, 0)
-            interp_grad = interp_one_with_grad = interp
+            interp_grad = interp
 
         found = files.read_table(self.write(REGULAR), 'f64')
         for number in range(1, 12):
             grid = Refusing()
             grid.number = number
             asked = evaluate.answers(found, grid, [[-1.25, 12.7]], 'cubic')
-            written = [(lambda numbers=numbers, alone=alone: evaluate.write(found, grid, [array.array('d', numbers)], 'cubic', False, alone, io.StringIO()))
-                       for numbers in ([-1.25, 12.7], [-1.25, 12.7, 0.0, 12.7]) for alone in (False, True)]
             if number in (8, 9):
                 self.assertIn(f'refused {number} ({NAMES[number]}): ', next(asked)[4])
-                self.assertEqual([write() for write in written], [1, 1, 2, 2])
             else:
-                for call in (lambda: next(asked), *written):
-                    with self.assertRaises(veltzuma.Refusal):
-                        call()
+                with self.assertRaises(veltzuma.Refusal):
+                    next(asked)
 
     def test_a_bad_line_ends_the_run(self):
         """The queries before it have their answers."""

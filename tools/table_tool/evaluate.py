@@ -18,73 +18,46 @@ MOST_TAILS = 1 << 14
 FEWEST = 64
 
 
-def batches(table, grid, numbers, mode, slopes=True, in_bits=False):
+def batches(table, grid, numbers, mode, slopes=True):
     """Asks the queries of an array, which has the coordinates of one query after the other. For each batch: the number of its first query, how many are
-    answered, their values, the slopes along each axis in turn, and the refusal of the query behind them, or None.
-
-    Value and slopes of one query are asked in one call. For many, a call for each would take longer than the sums that it spares; and which bits a NaN has
-    may differ from call to call, so that where `in_bits` they are shown, a query is asked alike whether it is alone or not."""
-    axes = len(table.axes)
+    answered, their values, the slopes along each axis in turn, and the refusal of the query behind them, or None."""
+    axes, code = len(table.axes), numbers.typecode
     count = len(numbers) // axes
     first, size = 0, count
     while first < count:
         asked = min(size, count - first)
         part = numbers[axes * first:axes * (first + asked)]
-        one_call = slopes and asked == 1 and not in_bits
-        values, columns, refusal = _alone(grid, part, mode) if one_call else _together(grid, part, axes, mode, slopes)
+        joined = part[0::axes]
+        for axis in range(1, axes):
+            joined += part[axis::axes]
+        room = bytes(asked * joined.itemsize)
+        values, gradients = array.array(code, room), array.array(code, axes * room if slopes else b'')
+        refusal = None
+        for call, out in ((grid.interp, values), (grid.interp_grad, gradients))[:2 if slopes else 1]:
+            try:
+                call(joined, out, mode)
+            except veltzuma.Refusal as refused:
+                if refused.number not in words.OF_QUERY:
+                    raise
+                refusal = refused
         # Of a refused batch, the queries before the refused one have their answers.
         answered = asked if refusal is None else refusal.query
-        yield first, answered, values, columns, refusal
+        yield first, answered, values, [gradients[axis * asked:(axis + 1) * asked] for axis in range(axes)] if slopes else [], refusal
         first += answered + (refusal is not None)
         # Where one is refused, others may be soon: what is asked behind them is asked again.
         size = 2 * size if refusal is None else max(2 * answered, FEWEST)
 
 
-def _alone(grid, x, mode):
-    """Of one query: an array of its value, one for the slope along each axis, and None; or nothing and its refusal."""
-    value, slopes, refusal = _both(grid, x, mode)
-    if refusal is not None:
-        return [], [], refusal
-    return array.array(x.typecode, [value]), [array.array(x.typecode, [slope]) for slope in slopes], None
-
-
-def _together(grid, part, axes, mode, slopes):
-    """The same of several queries, by a batch for the values and one for the slopes."""
-    asked, refusal = len(part) // axes, None
-    joined = part[0::axes]
-    for axis in range(1, axes):
-        joined += part[axis::axes]
-    room = bytes(asked * joined.itemsize)
-    values, gradients = array.array(part.typecode, room), array.array(part.typecode, axes * room if slopes else b'')
-    for call, out in ((grid.interp, values), (grid.interp_grad, gradients))[:2 if slopes else 1]:
-        try:
-            call(joined, out, mode)
-        except veltzuma.Refusal as refused:
-            refusal = _of_query(refused)
-    return values, [gradients[axis * asked:(axis + 1) * asked] for axis in range(axes)] if slopes else [], refusal
-
-
-def _both(grid, x, mode):
-    """Value and slopes of a query, asked in one call, and None; or its refusal behind two of these."""
-    try:
-        value, slopes, _ = grid.interp_one_with_grad(x, mode)
-    except veltzuma.Refusal as refused:
-        return None, None, _of_query(refused)
-    return value, slopes, None
-
-
-def _of_query(refusal):
-    """A refusal that is about one query; any other is raised."""
-    if refusal.number not in words.OF_QUERY:
-        raise refusal
-    return refusal
-
-
 def answers(table, grid, queries, mode):
-    """For each query in turn: (x, value, slopes, marks, None), or (x, None, None, None, refusal in words). `queries` is a list of coordinates."""
-    for x in queries:
-        value, slopes, refusal = _both(grid, x, mode)
-        yield (x, value, slopes, value.marks, None) if refusal is None else (x, None, None, None, words.of_query(table, refusal, x))
+    """For each query in turn: (x, value, slopes, places, None), or (x, None, None, None, refusal in words). `queries` is a list of coordinates."""
+    code = floats.CODE[table.width]
+    numbers = array.array(code, [coordinate for x in queries for coordinate in x])
+    for first, answered, values, gradients, refusal in batches(table, grid, numbers, mode):
+        for i, x in enumerate(queries[first:first + answered]):
+            yield x, values[i:i + 1], array.array(code, [column[i] for column in gradients]), grid.get_loc(x, mode), None
+        if refusal is not None:
+            x = queries[first + answered]
+            yield x, None, None, None, words.of_query(table, refusal, x)
 
 
 class Runs:
@@ -158,7 +131,7 @@ class Writer:
     def write(self, numbers, out):
         """Writes a line for each query. Returns how many were refused."""
         refused, shown = 0, None if self.alone else self.given(numbers)
-        for first, answered, values, gradients, refusal in batches(self.table, self.grid, numbers, self.mode, not self.alone, self.in_bits):
+        for first, answered, values, gradients, refusal in batches(self.table, self.grid, numbers, self.mode, not self.alone):
             begin, at = self.axes * first, self.axes * (first + answered)
             if answered and self.alone:
                 # There is a comma behind each number.

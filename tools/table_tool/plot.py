@@ -143,11 +143,11 @@ class Line:
         """Value and slope at each x, None where the library refuses."""
         found = []
         queries = [self.at[:self.along] + [x] + self.at[self.along + 1:] for x in xs]
-        for x, value, slopes, marks, refusal in evaluate.answers(self.table, grid, queries, self.mode):
-            found.append((x[self.along], value, None if refusal else slopes[self.along]))
-            for i, mark in enumerate(marks or []):
-                if i != self.along and (mark.below or mark.above):
-                    self.past[i] = 'below the first entry' if mark.below else 'above the last entry'
+        for x, value, slopes, places, refusal in evaluate.answers(self.table, grid, queries, self.mode):
+            found.append((x[self.along], None if refusal else value[0], None if refusal else slopes[self.along]))
+            for i, place in enumerate(places or []):
+                if i != self.along and (place.below or place.above):
+                    self.past[i] = 'below the first entry' if place.below else 'above the last entry'
         return found
 
     def _stored(self, axis):

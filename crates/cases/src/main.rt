@@ -10,7 +10,6 @@ use cases_calls::{
 use cases_marks::marked_cases;
 use cases_missing::missing_cases;
 use cases_refusals::refusals;
-use cases_with_grad::with_grad_cases;
 use harness_batches::{marked_words, run_batches};
 use harness_corpus::{Group, part, refusal};
 use harness_report::{say, say_number};
@@ -634,8 +633,7 @@ fn all(rt: &impl Print, s: Score, z: &[f64]) -> io::Result<Score> {
     let s = held_edge(rt, s)?;
     let s = kept_grids(rt, s)?;
     let s = marked_cases(rt, s)?;
-    let s = missing_cases(rt, s)?;
-    with_grad_cases(rt, s)
+    missing_cases(rt, s)
 }
 
 fn main(rt: HostRuntime) -> io::Result<()> {

@@ -4,7 +4,7 @@
 ghost use Rattle.std.specs.Prelude.{◌≡◌, length};
 
 use harness_batches::{Walk, marked_words, run_batches};
-use harness_calls::{INTERP_ONE, NEW, call_new, same_outcome, same_value};
+use harness_calls::{NEW, call_new, same_outcome, same_value};
 use harness_corpus::{Expected, Group, part, refusal};
 use harness_report::{say, say_difference_in};
 use harness_with_grad::same_single;
@@ -306,7 +306,7 @@ pub fn kept(
     let asked = ask(g, axes, vals, [x, 0.0, 0.0, 0.0]);
     let answer = asked.answer;
     let marks = asked.marks;
-    let t = same_value(clear(), INTERP_ONE, e, answer);
+    let t = same_value(clear(), e, answer);
     told(
         rt,
         s,

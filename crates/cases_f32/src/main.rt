@@ -11,7 +11,6 @@ use cases_calls_f32::{
 use cases_marks_f32::marked_cases;
 use cases_missing_f32::missing_cases;
 use cases_refusals_f32::refusals;
-use cases_with_grad_f32::with_grad_cases;
 use harness_batches_f32::{marked_words, run_batches};
 use harness_corpus::refusal;
 use harness_corpus_f32::{GroupF32, part};
@@ -615,8 +614,7 @@ fn all(rt: &impl Print, s: Score, z: &[f32]) -> io::Result<Score> {
     let s = held_edge(rt, s)?;
     let s = kept_grids(rt, s)?;
     let s = marked_cases(rt, s)?;
-    let s = missing_cases(rt, s)?;
-    with_grad_cases(rt, s)
+    missing_cases(rt, s)
 }
 
 fn main(rt: HostRuntime) -> io::Result<()> {

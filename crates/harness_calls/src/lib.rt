@@ -146,12 +146,17 @@ pub fn same_places(t: Tally, e: Expected, answer: PlaceAnswer) -> Tally {
 }
 
 // The value of a query, by the call that gave it.
-pub fn same_value(t: Tally, call: u64, e: Expected, answer: Answer) -> Tally {
+pub fn same_value_of(t: Tally, call: u64, e: Expected, answer: Answer) -> Tally {
     let t = same_outcome(t, call, e.number, 0, e.axis, outcome_of(answer));
     match answer {
         Answer::Value(x) => same_float(t, call, VALUE, 0, e.value, x),
         Answer::Refused { .. } => t,
     }
+}
+
+// The value of a query, however it was asked.
+pub fn same_value(t: Tally, e: Expected, answer: Answer) -> Tally {
+    same_value_of(t, INTERP_ONE, e, answer)
 }
 
 // The components of its gradient, past the axis count and on refusal too.
@@ -168,4 +173,24 @@ pub fn same_gradient(t: Tally, e: Expected, answer: GradientAnswer) -> Tally {
     let gradient = answer.gradient;
     let t = same_outcome(t, INTERP_ONE_GRAD, e.number, 0, e.axis, outcome);
     same_components(t, INTERP_ONE_GRAD, e, gradient)
+}
+
+// The three single calls on a query; their marks are not compared.
+pub fn same_single(
+    t: Tally,
+    g: Group,
+    axes: &[f64],
+    vals: &[f64],
+    x: [f64; 4],
+    e: Expected,
+) -> Tally {
+    let placed = call_get_loc(g, axes, vals, x);
+    let places = placed.answer;
+    let t = same_places(t, e, places);
+    let valued = call_interp_one(g, axes, vals, x);
+    let value = valued.answer;
+    let t = same_value(t, e, value);
+    let graded = call_interp_one_grad(g, axes, vals, x);
+    let gradient = graded.answer;
+    same_gradient(t, e, gradient)
 }

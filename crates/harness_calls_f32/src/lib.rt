@@ -2,7 +2,7 @@
 // The calls under test on a group's grid, of either kind, and the comparison of the parts of an answer.
 #![tactic(auto)]
 
-use harness_calls::{INTERP_ONE_GRAD, same_outcome};
+use harness_calls::{INTERP_ONE, INTERP_ONE_GRAD, same_outcome, same_places};
 use harness_corpus::Expected;
 use harness_corpus_f32::GroupF32;
 use harness_words::{COMPONENT, Tally, VALUE, same};
@@ -107,12 +107,17 @@ pub fn same_float(t: Tally, call: u64, item: u64, place: u64, expected: u64, fou
 }
 
 // The value of a query, by the call that gave it.
-pub fn same_value(t: Tally, call: u64, e: Expected, answer: AnswerF32) -> Tally {
+pub fn same_value_of(t: Tally, call: u64, e: Expected, answer: AnswerF32) -> Tally {
     let t = same_outcome(t, call, e.number, 0, e.axis, outcome_of(answer));
     match answer {
         AnswerF32::Value(x) => same_float(t, call, VALUE, 0, e.value, x),
         AnswerF32::Refused { .. } => t,
     }
+}
+
+// The value of a query, however it was asked.
+pub fn same_value(t: Tally, e: Expected, answer: AnswerF32) -> Tally {
+    same_value_of(t, INTERP_ONE, e, answer)
 }
 
 // The components of its gradient, past the axis count and on refusal too.
@@ -129,4 +134,24 @@ pub fn same_gradient(t: Tally, e: Expected, answer: GradientAnswerF32) -> Tally 
     let gradient = answer.gradient;
     let t = same_outcome(t, INTERP_ONE_GRAD, e.number, 0, e.axis, outcome);
     same_components(t, INTERP_ONE_GRAD, e, gradient)
+}
+
+// The three single calls on a query; their marks are not compared.
+pub fn same_single(
+    t: Tally,
+    g: GroupF32,
+    axes: &[f32],
+    vals: &[f32],
+    x: [f32; 4],
+    e: Expected,
+) -> Tally {
+    let placed = call_get_loc(g, axes, vals, x);
+    let places = placed.answer;
+    let t = same_places(t, e, places);
+    let valued = call_interp_one(g, axes, vals, x);
+    let value = valued.answer;
+    let t = same_value(t, e, value);
+    let graded = call_interp_one_grad(g, axes, vals, x);
+    let gradient = graded.answer;
+    same_gradient(t, e, gradient)
 }

@@ -1,10 +1,7 @@
 // The call for value and gradient together on a group's grid, of either kind, and the comparison of all single calls on a query.
 #![tactic(auto)]
 
-use harness_calls::{
-    INTERP_ONE, INTERP_ONE_WITH_GRAD, call_get_loc, call_interp_one, call_interp_one_grad,
-    same_components, same_gradient, same_places, same_value,
-};
+use harness_calls::{INTERP_ONE_WITH_GRAD, same_components, same_value_of};
 use harness_corpus::{Expected, Group};
 use harness_words::{SUMS, Tally, same};
 use with_grad::ValueAndGradient;
@@ -47,7 +44,7 @@ pub fn same_with_grad(t: Tally, e: Expected, sums: u64, found: ValueAndGradient)
     let answer = found.answer;
     let gradient = found.gradient;
     let taken = found.sums;
-    let t = same_value(t, INTERP_ONE_WITH_GRAD, e, answer);
+    let t = same_value_of(t, INTERP_ONE_WITH_GRAD, e, answer);
     let t = same_components(t, INTERP_ONE_WITH_GRAD, e, gradient);
     let number = counted_sums::number(taken);
     same(t, INTERP_ONE_WITH_GRAD, SUMS, 0, sums, number as u64)
@@ -62,15 +59,7 @@ pub fn same_single(
     x: [f64; 4],
     e: Expected,
 ) -> Tally {
-    let placed = call_get_loc(g, axes, vals, x);
-    let places = placed.answer;
-    let t = same_places(t, e, places);
-    let valued = call_interp_one(g, axes, vals, x);
-    let value = valued.answer;
-    let t = same_value(t, INTERP_ONE, e, value);
-    let graded = call_interp_one_grad(g, axes, vals, x);
-    let gradient = graded.answer;
-    let t = same_gradient(t, e, gradient);
+    let t = harness_calls::same_single(t, g, axes, vals, x, e);
     let both = call_interp_one_with_grad(g, axes, vals, x);
     same_with_grad(t, e, sums_of(g.n, e.number), both)
 }

@@ -4,11 +4,10 @@
 ghost use Rattle.std.specs.Prelude.{◌≤◌};
 
 use harness_batches::{Walk, marked_words, put, put_gradient, run_batches, with_tally};
-use harness_calls::{NEW, call_new, same_outcome};
+use harness_calls::{NEW, call_new, same_outcome, same_single};
 use harness_corpus::{
     CUT_SHORT, Expected, Group, TRAILING, expected_at, group_at, part, query, refusal,
 };
-use harness_with_grad::same_single;
 use harness_words::{Tally, clear, word};
 
 // What the batches give, once query i is known.

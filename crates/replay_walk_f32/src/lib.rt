@@ -5,10 +5,9 @@
 use harness_batches::{Walk, put, put_gradient, with_tally};
 use harness_batches_f32::{marked_words, run_batches};
 use harness_calls::{NEW, same_outcome};
-use harness_calls_f32::call_new;
+use harness_calls_f32::{call_new, same_single};
 use harness_corpus::{expected_at, refusal};
 use harness_corpus_f32::{GroupF32, group_at, part, query};
-use harness_with_grad_f32::same_single;
 use harness_words::{Tally, word};
 use replay_walk::{at_most_64, fault, finish, next_group, start, stop_at};
 
