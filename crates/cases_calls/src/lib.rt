@@ -4,7 +4,7 @@
 ghost use Rattle.std.specs.Prelude.{◌≡◌, length};
 
 use harness_batches::{Walk, marked_words, run_batches};
-use harness_calls::{NEW, call_new, same_outcome, same_value};
+use harness_calls::{INTERP_ONE, NEW, call_new, same_outcome, same_value};
 use harness_corpus::{Expected, Group, part, refusal};
 use harness_report::{say, say_difference_in};
 use harness_with_grad::same_single;

@@ -6,7 +6,7 @@ ghost use Rattle.std.specs.Prelude.{◌≡◌, length};
 
 use cases_calls::{Score, answer_of, same_marks, told, walk};
 use harness_batches_f32::{marked_words, run_batches};
-use harness_calls::{NEW, same_outcome};
+use harness_calls::{INTERP_ONE, NEW, same_outcome};
 use harness_calls_f32::{call_new, same_value};
 use harness_corpus::refusal;
 use harness_corpus_f32::{GroupF32, part};
