@@ -4,11 +4,10 @@
 use harness_report::{report, say};
 use harness_words::decode;
 use replay_walk::run;
-use std::alloc::Global;
 use std::io::Read;
 use std::{fs, io};
 
-fn replay_bytes(rt: &impl Print, alloc: Global, bytes: &[u8]) -> io::Result<()> {
+fn replay_bytes(rt: &impl Print, bytes: &[u8]) -> io::Result<()> {
     let got = bytes.len();
     if 1048576 < got {
         return say(rt, b"replay: FAULT: the corpus is over 131,072 words\n");
@@ -17,8 +16,8 @@ fn replay_bytes(rt: &impl Print, alloc: Global, bytes: &[u8]) -> io::Result<()> 
         return say(rt, b"replay: FAULT: the corpus is not whole words\n");
     }
     let count = got / 8;
-    let mut words = vec![in alloc; 0; 131072]?;
-    let mut floats = vec![in alloc; 0.0; 131072]?;
+    let mut words = [0; 131072];
+    let mut floats = [0.0; 131072];
     decode(bytes, &mut words, &mut floats, count);
     report(rt, run(&words[..count], &floats[..count]))
 }
@@ -27,8 +26,8 @@ fn main(rt: HostRuntime) -> io::Result<()> {
     let Ok(file) = fs::open(&rt, "corpus.bin") else {
         return say(&rt, b"replay: FAULT: there is no corpus.bin\n");
     };
+    // On the heap: the checker can't follow an array of a million bytes. Room for a word more than a corpus may have.
     let mut bytes = Vec::new(rt.alloc());
-    // A word more than a corpus may have.
     file.take(1048584).read_to_end(&mut bytes)?;
-    replay_bytes(&rt, rt.alloc(), &bytes)
+    replay_bytes(&rt, &bytes)
 }
