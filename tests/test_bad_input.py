@@ -233,13 +233,13 @@ class BadCommands(InFolder):
 
     def test_library_of_another_version(self):
         out = os.path.join(self.folder, 'out')
-        for name, (made, said) in OTHERS.items():
-            path = stand_in(self.folder, name, *made)
+        for name, (versions, said) in OTHERS.items():
+            path = stand_in(self.folder, name, versions)
             for words in (['check', LARGEST], ['eval', LARGEST, '--at', '1,2,3'], ['nodes', LARGEST], ['plot', LARGEST, '--along', '0', '-o', out],
                           ['report', LARGEST, '-o', out], ['diff', LARGEST, LARGEST]):
                 self.assertOneLine(run_process(*words, VELTZUMA_LIBRARY=path), 2, f'the library cannot be loaded: {self.folder}/{said}; ')
         self.assertFalse(os.path.exists(out))
-        path = stand_in(self.folder, 'none.so', {}, '')
+        path = stand_in(self.folder, 'none.so', {}, symbols=False)
         self.assertOneLine(run_process('check', LARGEST, VELTZUMA_LIBRARY=path), 2, f'the library cannot be loaded: {path} is not the library: it has no veltzuma_regular_new')
 
     def test_numbers_that_are_no_bad_input(self):

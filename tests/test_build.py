@@ -185,8 +185,8 @@ class Build(Copy):
         for path, why in (('/nonexistent', '/nonexistent: cannot open shared object file: No such file or directory\n'), (text, f'{text}: ')):
             status, out, err = self.tool('build', VELTZUMA_LIBRARY=path)
             self.assertEqual((status, out, err.count('\n'), err[:len(said + why)]), (2, '', 1, said + why))
-        for name, (made, told) in OTHERS.items():
-            status, out, err = self.tool('build', VELTZUMA_LIBRARY=stand_in(self.folder, name, *made))
+        for name, (versions, told) in OTHERS.items():
+            status, out, err = self.tool('build', VELTZUMA_LIBRARY=stand_in(self.folder, name, versions))
             self.assertEqual((status, out, err.count('\n')), (2, '', 1))
             self.assertIn(f'{said}{self.folder}/{told}; ', err)
         self.assertEqual(self.called(), [])

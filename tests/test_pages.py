@@ -11,8 +11,8 @@ import sys
 import unittest
 import xml.etree.ElementTree
 
-from support import alike, bits, Direct, InFolder, LARGEST, LIBRARY, MODES, SAMPLES, TOP, run, run_process, table, text_of
-from table_tool import files, floats, plot, report
+from support import bits, Direct, InFolder, LARGEST, LIBRARY, MODES, SAMPLES, TOP, run, run_process, table, text_of
+from table_tool import floats, plot, report
 import veltzuma
 
 SVG = '{http://www.w3.org/2000/svg}'
@@ -499,25 +499,6 @@ class Plot(InFolder):
                           for root in (plain, both)], [1, 2])
         self.assertIn('slope, mL/min per mmHg', ''.join(both.itertext()))
 
-    def test_value_and_slope_of_each_point(self):
-        """Along each axis, in every setting and width: by bits what the library answers, and the slope is that along the axis."""
-        numbers = [math.sin(k) * 9 for k in range(5 * 4 * 4)]
-        for kind, axes, lent in (('rectilinear', [('a', [0, 1, 2, 4, 7]), ('b', [-1, 0, 2, 3]), ('c', [0, 0.5, 1, 9])], [[0, 1, 2, 4, 7, -1, 0, 2, 3, 0, 0.5, 1, 9]]),
-                                 ('regular', [('a', 0, 1, 5), ('b', -1, 0.5, 4), ('c', 0, 3, 4)], [[0, -1, 0], [1, 0.5, 3]])):
-            path = self.write(table(axes, lambda i, j, k: repr(numbers[16 * i + 4 * j + k]), kind))
-            for width, mode, along in itertools.product(('f64', 'f32'), MODES, range(3)):
-                found = files.read_table(path, width)
-                grid = Direct(kind, [5, 4, 4], lent, [floats.round_to(number, width) for number in numbers], width)
-                for at in (None, [1.5, 0.25, 0.75], [9.0, -3.0, math.nan]):
-                    line = plot.Line(found, found.grid(veltzuma.load()), along, at, mode)
-                    self.assertGreater(len(line.curve), 400)
-                    for x, value, slope in line.curve[::7]:
-                        answer = grid.one([x if axis == along else line.at[axis] for axis in range(3)], mode)
-                        if len(answer) == 2:
-                            self.assertEqual((value, slope), (None, None))
-                        else:
-                            self.assertTrue(alike([value, slope], [answer[0], answer[1][along]], width), (kind, width, mode, along, x))
-
     def test_text_is_escaped(self):
         root = self.drawn(self.write(table([(EVIL, [0, 1, 2, 3])], [[1, 2, 3, 4]], unit=EVIL)), '--along', '0')
         self.assertIn(f'volume along {EVIL}', ''.join(root.itertext()))
@@ -561,7 +542,7 @@ class Readme(InFolder):
     def test_python(self):
         code = re.search(r"(    import sys; .*?)\n\n", self.TEXT, re.S)[1].replace('\n    ', '\n').strip()
         found = subprocess.run([sys.executable, '-B', '-c', code], cwd=TOP, stdout=subprocess.PIPE)
-        self.assertEqual(found.stdout, b"3.375 [25.0] array('d', [1.0, 3.375])\n(Marks(below=False, above=True),) ValueAndGradient(value=3.375, gradient=[6.25], sums=2)\n")
+        self.assertEqual(found.stdout, b"3.375 [25.0] array('d', [1.0, 3.375])\n(Marks(below=False, above=True),)\n")
 
     def test_picture(self):
         words = re.search(r'\./veltzuma (plot .*) -o (docs/\S+\.svg)', self.TEXT)

@@ -9,7 +9,8 @@ import pickle
 import random
 import unittest
 
-from support import Direct, MARKS, MODES, SUMS, alike
+from support import Direct, EARLIER, InFolder, LARGEST, MARKS, MODES, SUMS, VERSION, alike, run_process, stand_in, table
+from table_tool import files, floats, plot
 import test_bindings
 import veltzuma
 
@@ -267,6 +268,55 @@ class FromPython(unittest.TestCase):
                 with self.assertRaises(veltzuma.Refusal) as caught:
                     veltzuma.MulticubicRegular(*made, width).interp_one_with_grad(x)
                 self.assertEqual(str(caught.exception), told)
+
+    def test_example(self):
+        """What the call's own text shows."""
+        grid = veltzuma.MulticubicRegular([4], [0.0], [1.0], [0.0, 1.0, 8.0, 27.0])
+        shown = 'ValueAndGradient(value=3.375, gradient=[6.25], sums=2)'
+        self.assertEqual(repr(grid.interp_one_with_grad([1.5])), shown)
+        self.assertIn(shown, grid.interp_one_with_grad.__doc__)
+
+    def test_release(self):
+        """Calls that came with a later release than the first of the version came with this one or before it."""
+        releases = [tuple(map(int, release.split('.'))) for release in ['%d.1' % veltzuma.VERSION, *veltzuma._LATER.values(), veltzuma.__version__]]
+        self.assertEqual(releases, sorted(releases))
+
+
+class Earlier(InFolder):
+    """A library of this version that lacks the call."""
+
+    def test_from_python(self):
+        for name, (lacking, said) in EARLIER.items():
+            with self.assertRaises(OSError) as caught:
+                veltzuma.load(stand_in(self.folder, name, {'': VERSION, '_f32': VERSION}, lacking=lacking))
+            self.assertEqual(str(caught.exception), f"{self.folder}/{said}; './veltzuma build' builds that where VELTZUMA_LIBRARY is not set")
+
+    def test_the_tool(self):
+        for name, (lacking, said) in EARLIER.items():
+            path = stand_in(self.folder, name, {'': VERSION, '_f32': VERSION}, lacking=lacking)
+            for words in (['check', LARGEST], ['eval', LARGEST, '--at', '1,2,3'], ['diff', LARGEST, LARGEST], ['build']):
+                self.assertOneLine(run_process(*words, VELTZUMA_LIBRARY=path), 2, f'{self.folder}/{said}; ')
+
+
+class Curves(InFolder):
+    def test_value_and_slope_of_each_point(self):
+        """Along each axis, in every setting and width: by bits what the library answers, and the slope is that along the axis."""
+        numbers = [math.sin(k) * 9 for k in range(5 * 4 * 4)]
+        for kind, axes, lent in (('rectilinear', [('a', [0, 1, 2, 4, 7]), ('b', [-1, 0, 2, 3]), ('c', [0, 0.5, 1, 9])], [[0, 1, 2, 4, 7, -1, 0, 2, 3, 0, 0.5, 1, 9]]),
+                                 ('regular', [('a', 0, 1, 5), ('b', -1, 0.5, 4), ('c', 0, 3, 4)], [[0, -1, 0], [1, 0.5, 3]])):
+            path = self.write(table(axes, lambda i, j, k: repr(numbers[16 * i + 4 * j + k]), kind))
+            for width, mode, along in itertools.product(('f64', 'f32'), MODES, range(3)):
+                found = files.read_table(path, width)
+                grid = Direct(kind, [5, 4, 4], lent, [floats.round_to(number, width) for number in numbers], width)
+                for at in (None, [1.5, 0.25, 0.75], [9.0, -3.0, math.nan]):
+                    line = plot.Line(found, found.grid(veltzuma.load()), along, at, mode)
+                    self.assertGreater(len(line.curve), 400)
+                    for x, value, slope in line.curve[::7]:
+                        answer = grid.one([x if axis == along else line.at[axis] for axis in range(3)], mode)
+                        if len(answer) == 2:
+                            self.assertEqual((value, slope), (None, None))
+                        else:
+                            self.assertTrue(alike([value, slope], [answer[0], answer[1][along]], width), (kind, width, mode, along, x))
 
 
 if __name__ == '__main__':

@@ -7,7 +7,6 @@
     grid.interp_one([1.5])                      # 3.375
     grid.interp_one([4.0], mode='straight')     # 52.0
     grid.interp_one([4.0]).marks                # (Marks(below=False, above=True),)
-    grid.interp_one_with_grad([1.5])            # ValueAndGradient(value=3.375, gradient=[6.25], sums=2)
     grid.get_loc([3.0])                         # [Place(origin=0, saturation='OutsideHigh', below=False, above=False)]
     grid.interp([1.0, 1.5])                     # array('d', [1.0, 3.375])
     grid.interp([[1.0, 1.5]])                   # array('d', [1.0, 3.375])
@@ -705,7 +704,8 @@ class _Grid:
 
     def interp_one_with_grad(self, x: Numbers, mode: Mode = 'cubic') -> ValueAndGradient:
         """Value and gradient at a query in one call, as `interp_one` and `interp_one_grad` give them, and the number of four-term sums that it took: 2, 11,
-        48 or 197 on one to four axes, since a sum that several of them need is taken once."""
+        48 or 197 on one to four axes, since a sum that several of them need is taken once. On the grid that the module shows `interp_one_with_grad([1.5])`
+        is ValueAndGradient(value=3.375, gradient=[6.25], sums=2)."""
         value, slopes, sums = self._floats(1), self._floats(min(self._axis_count, 4)), (ctypes.c_size_t * 1)()
         marks = self._one('interp_one_with_grad', x, mode, (*value.buffer_info(), *slopes.buffer_info()), (ctypes.addressof(sums), 1))
         return ValueAndGradient(Value(value[0], marks), Gradient(slopes, marks), sums[0])
