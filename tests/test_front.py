@@ -77,9 +77,9 @@ class Names(unittest.TestCase):
             crate, names, said = (re.split('  +', line.strip()) + [''])[:3]
             found += [(crate, name) for name in re.findall(r'\w+', names.replace(' to ', ' '))] + re.findall(r'(\w+)::(\w+)', said)
         self.assertGreater(len(found), 35)
-        self.assertEqual([(crate, name) for crate, name in found if not re.search(rf'\bfn {name}\(', source(crate))], [])
+        self.assertEqual([(crate, name) for crate, name in found if not re.search(rf'\bfn {name}[(<]', source(crate))], [])
         sources = ''.join(source(crate) for crate in {crate for crate, _ in found})
-        self.assertEqual([name for _, name in found[1:] if len(re.findall(rf'\b{name}\(', sources)) < 2], [])
+        self.assertEqual([name for _, name in found[1:] if len(re.findall(rf'\b{name}[(<]', sources)) < 2], [])
         self.assertEqual(len({crate for crate, _ in found}), 11)
         self.assertIn('eleven crates', ARCHITECTURE)
 

@@ -9,13 +9,21 @@ import unittest
 from support import InFolder, TOP, text_of
 
 WIDTHS = ('', '_f32')
+# Crates that both widths call.
+GENERIC = ('interp_math', 'reduction', 'counted_sums', 'shared_reduction')
 KINDS = ('regular', 'rectilinear')
 # On the way of the call, above counted_sums: each with the lines in which it may multiply. Without a product there is no such sum.
-ABOVE = {'shared_reduction': [], 'with_grad': [], **{f'{kind}_with_grad': ['base = base + o * s;'] for kind in KINDS}}
+ABOVE = {'shared_reduction': [], 'with_grad': [], **{f'{kind}_with_grad': ['base += place.origin * strides[axis];'] for kind in KINDS}}
 # The crates of the calls for C: as they are, and as a static library exports them.
 FOR_C = ('capi', 'capi_c')
-# The functions that take the sums of the other calls.
-TAKING = ('dot4', 'reduce1', 'reduce2', 'reduce3', 'reduce4')
+# The functions by which the other calls take their sums; of those of `reduction`, the one that takes them itself.
+TAKING = ('dot4', 'reduce', 'reduce1', 'reduce2', 'reduce3', 'reduce4')
+SUMMING = 'reduce'
+
+
+def at(crate, width):
+    """A crate's name at a width."""
+    return crate if crate in GENERIC else crate + width
 
 
 # Of most copies below only one source is another.
@@ -40,11 +48,13 @@ def closed(text, at):
 
 @functools.lru_cache(maxsize=None)
 def bodies(text):
-    """The functions of a code, by name."""
+    """The functions of a code, by name: of several with one name, as of a trait's impls, all of them. One without a body is none."""
     functions = {}
-    for found in re.finditer(r'\bfn (\w+)\s*\(', text):
-        begin = text.index('{', found.end())
-        functions[found[1]] = text[begin:closed(text, begin + 1)]
+    for found in re.finditer(r'\bfn (\w+)\s*(?:<[^()]*>)?\s*\(', text):
+        # The types of arguments and result have no brace, and a semicolon in brackets alone.
+        begin = re.compile(r'[^][{;]*(?:(?:\[[^][]*\]|\[[^][]*(?:\[[^][]*\][^][]*)+\])[^][{;]*)*').match(text, found.end()).end()
+        if text[begin] == '{':
+            functions[found[1]] = functions.get(found[1], '') + text[begin:closed(text, begin + 1)]
     return functions
 
 
@@ -58,9 +68,9 @@ class Source:
 
     def named(self, function):
         """The functions that one of this crate names, as pairs of crate and name: all that it calls, and maybe some whose name a local has."""
-        words = set(re.findall(r'\w+', self.functions[function]))
+        words, paths = set(re.findall(r'\w+', self.functions[function])), re.findall(r'\b(\w+)::(\w+)', self.functions[function])
         return ({(self.crate, name) for name in words & self.functions.keys()} | {(self.uses[name], name) for name in words & self.uses.keys()}
-                | set(re.findall(r'\b(\w+)::(\w+)', self.functions[function])))
+                | {(self.uses.get(of, of), name) for of, name in paths})
 
 
 def read(root):
@@ -88,25 +98,27 @@ def faults(root):
     """What is not as it has to be in the sources of a repository."""
     sources, found = read(root), []
     for width in WIDTHS:
-        missing = [crate + width for crate in ['counted_sums', *ABOVE, *FOR_C] if crate + width not in sources]
+        missing = [at(crate, width) for crate in ['counted_sums', *ABOVE, *FOR_C] if at(crate, width) not in sources]
         if missing:
-            found += [f'there is no crate {crate}' for crate in missing]
+            found += [told for crate in missing if (told := f'there is no crate {crate}') not in found]
             continue
-        found += _of_the_counter(sources['counted_sums' + width]) + _above(sources, width) + _on_the_way(sources, width)
+        found += _above(sources, width) + _on_the_way(sources, width)
+    if 'counted_sums' in sources:
+        found = _of_the_counter(sources['counted_sums']) + found
     for crate, source in sources.items():
-        if crate not in ['counted_sums' + width for width in WIDTHS] and _opened(source.code):
+        if crate != 'counted_sums' and _opened(source.code):
             found.append(f'{crate}: it makes a Sums, or takes one apart')
     return found
 
 
 def _opened(text):
     """What stands in braces behind the name of the type, where it is no declaration and no function's result."""
-    return re.findall(r'(?<!struct )(?<!-> )\bSums(?:F32)?\s*\{([^{}]*)\}', text)
+    return re.findall(r'(?<!struct )(?<!-> )\bSums\s*\{([^{}]*)\}', text)
 
 
 def _of_the_counter(source):
     found, body = [], source.functions.get('sum4', '')
-    if not re.search(r'\bpub struct Sums(F32)? \{\s*taken: usize,\s*\}', source.code):
+    if not re.search(r'\bpub struct Sums \{\s*taken: usize,\s*\}', source.code):
         found.append('Sums has not one field, which is private')
     if sorted(source.functions) != ['none', 'number', 'sum4']:
         found.append(f'its functions are {", ".join(source.functions)}')
@@ -122,10 +134,13 @@ def _of_the_counter(source):
 def _above(sources, width):
     found = []
     for crate, products in ABOVE.items():
-        text = sources[crate + width].code
-        found += [f'{crate}{width}: it names {name}' for name in TAKING if re.search(rf'\b{name}\b', text)]
+        if crate in GENERIC and width:
+            continue
+        crate = at(crate, width)
+        text = sources[crate].code
+        found += [f'{crate}: it names {name}' for name in TAKING if re.search(rf'\b{name}\b', text)]
         if [line.strip() for line in text.split('\n') if '*' in line or 'mul_add' in line] != products:
-            found.append(f'{crate}{width}: it multiplies')
+            found.append(f'{crate}: it multiplies')
     return found
 
 
@@ -135,14 +150,14 @@ def _calls(kind, width):
 
 def _on_the_way(sources, width):
     """In whatever crate: from the call, in Rattle and for C, no function is come to that takes a sum, but sum4."""
-    found, sum4 = [], ('counted_sums' + width, 'sum4')
+    found, sum4 = [], ('counted_sums', 'sum4')
     for kind in KINDS:
         for crate, call in _calls(kind, width):
             way = reached(sources, crate, call)
             if sum4 not in way:
                 found.append(f'{call} of {crate} does not come to sum4')
             for other, name in sorted(way - {sum4}):
-                if any(of.startswith('interp_math') and taking == 'dot4' for of, taking in sources[other].named(name)):
+                if any(of == 'interp_math' and taking == 'dot4' for of, taking in sources[other].named(name)):
                     found.append(f'{call} of {crate} comes to {name} of {other}, which takes a sum')
     return found
 
@@ -174,48 +189,46 @@ class Text(InFolder):
         self.assertEqual(faults(TOP), [])
         self.assertEqual(faults(self.folder), [])
         # And it is these sources that were read.
-        for crate in ['counted_sums' + width for width in WIDTHS]:
-            source = read(TOP)[crate]
-            self.assertIn('taken: sums.taken + 1', source.functions['sum4'])
-            self.assertNotRegex(source.code, 'ensures|requires|≡')
+        source = read(TOP)['counted_sums']
+        self.assertIn('taken: sums.taken + 1', source.functions['sum4'])
+        self.assertNotRegex(source.code, 'ensures|requires|≡')
 
     def test_the_counter(self):
-        for width, sums in (('', 'Sums'), ('_f32', 'SumsF32')):
-            crate = 'counted_sums' + width
-            made = f'        sums: {sums} {{\n            taken: sums.taken + 1,\n        }},\n'
-            for edits, more, *told in (
-                    ([('value: dot4(weights, vals)', 'value: dot4(weights, vals) + dot4(weights, vals)')], '', 'a sum is taken otherwise', 'it adds otherwise'),
-                    ([('taken: sums.taken + 1,', 'taken: sums.taken + 1 + 1,')], '', 'it adds otherwise', 'it makes a Sums'),
-                    ([('taken: sums.taken + 1,', 'taken: sums.taken + 11,')], '', 'it adds otherwise', 'it makes a Sums'),
-                    ([('taken: sums.taken + 1,', 'taken: sums.taken,')], '', 'it adds otherwise', 'it makes a Sums'),
-                    ([('taken: 0 }', 'taken: 1 }')], '', 'it makes a Sums'),
-                    ([('    taken: usize,', '    pub taken: usize,')], '', 'Sums has not one field'),
-                    ([('    taken: usize,', '    taken: usize,\n    pub other: usize,')], '', 'Sums has not one field'),
-                    ([], f'\npub fn more(n: usize) -> {sums} {{\n    {sums} {{ taken: n }}\n}}\n', 'its functions are', 'it makes a Sums'),
-                    ([], '\npub fn twice(weights: [f64; 4], vals: [f64; 4]) -> f64 {\n    dot4 (weights, vals)\n}\n', 'its functions are', 'a sum is taken otherwise'),
-                    ([(made, f'        sums,\n')], '', 'it adds otherwise', 'it makes a Sums')):
-                found = self.told(crate, *edits, more=more)
-                self.assertEqual([fault[:len(crate) + 2 + len(one)] for fault, one in zip(found, told)], [f'{crate}: {one}' for one in told], found)
-                self.assertEqual(len(found), len(told), found)
-            # Elsewhere than in the code it may be named.
-            self.assertEqual(self.told(crate, more='// dot4(weights, vals) + 1; Sums { taken: 7 }\n'), [])
-            self.assertEqual(self.told(crate, ('{ sums.taken + 1 < 2 ^ 64 }', '{\n        sums.taken + 1 + 1 < 2 ^ 64\n        × dot4( Sums { taken: 7 } ) }')), [])
+        crate = 'counted_sums'
+        made = '        sums: Sums {\n            taken: sums.taken + 1,\n        },\n'
+        for edits, more, *told in (
+                ([('value: dot4(weights, vals)', 'value: dot4(weights, vals) + dot4(weights, vals)')], '', 'a sum is taken otherwise', 'it adds otherwise'),
+                ([('taken: sums.taken + 1,', 'taken: sums.taken + 1 + 1,')], '', 'it adds otherwise', 'it makes a Sums'),
+                ([('taken: sums.taken + 1,', 'taken: sums.taken + 11,')], '', 'it adds otherwise', 'it makes a Sums'),
+                ([('taken: sums.taken + 1,', 'taken: sums.taken,')], '', 'it adds otherwise', 'it makes a Sums'),
+                ([('taken: 0 }', 'taken: 1 }')], '', 'it makes a Sums'),
+                ([('    taken: usize,', '    pub taken: usize,')], '', 'Sums has not one field'),
+                ([('    taken: usize,', '    taken: usize,\n    pub other: usize,')], '', 'Sums has not one field'),
+                ([], '\npub fn more(n: usize) -> Sums {\n    Sums { taken: n }\n}\n', 'its functions are', 'it makes a Sums'),
+                ([], '\npub fn twice(weights: [f64; 4], vals: [f64; 4]) -> f64 {\n    dot4 (weights, vals)\n}\n', 'its functions are', 'a sum is taken otherwise'),
+                ([(made, '        sums,\n')], '', 'it adds otherwise', 'it makes a Sums')):
+            found = self.told(crate, *edits, more=more)
+            self.assertEqual([fault[:len(crate) + 2 + len(one)] for fault, one in zip(found, told)], [f'{crate}: {one}' for one in told], found)
+            self.assertEqual(len(found), len(told), found)
+        # Elsewhere than in the code it may be named.
+        self.assertEqual(self.told(crate, more='// dot4(weights, vals) + 1; Sums { taken: 7 }\n'), [])
+        self.assertEqual(self.told(crate, ('{ sums.taken + 1 < 2 ^ 64 }', '{\n        sums.taken + 1 + 1 < 2 ^ 64\n        × dot4( Sums { taken: 7 } ) }')), [])
 
     def test_above(self):
-        for width, number, sums in (('', 'f64', 'Sums'), ('_f32', 'f32', 'SumsF32')):
+        for width, number in (('', 'f64'), ('_f32', 'f32')):
             for crate, name in (('shared_reduction', 'dot4'), ('with_grad', 'dot4'), ('regular_with_grad', 'reduce3'), ('rectilinear_with_grad', 'reduce1')):
-                crate += width
+                crate = at(crate, width)
                 function = f'\nfn other(weights: [[{number}; 4]; 4], vals: [{number}; 4]) -> {number} {{\n    %s\n}}\n'
                 self.assertEqual(self.told(crate, more=function % f'{name}(weights[0], vals)'), [f'{crate}: it names {name}'])
-                self.assertEqual(self.told(crate, more=f'use interp_math{width}::{name} as other;\n'), [f'{crate}: it names {name}'])
+                self.assertEqual(self.told(crate, more=f'use interp_math::{name} as other;\n'), [f'{crate}: it names {name}'])
                 self.assertEqual(self.told(crate, more=function % f'// {name}(weights[0], vals)\n    vals[0]'), [])
                 for product in ('weights[0][0] * vals[0]', 'mul_add(weights[0][1], vals[1], vals[0])'):
                     self.assertEqual(self.told(crate, more=function % product), [f'{crate}: it multiplies'])
-                for made in (f'let other = {sums} {{ taken: 0 }};', f'let {sums} {{ taken }} = sums;', f'counted_sums{width}::{sums} {{\n        taken: 7,\n    }}'):
+                for made in ('let other = Sums { taken: 0 };', 'let Sums { taken } = sums;', 'counted_sums::Sums {\n        taken: 7,\n    }'):
                     self.assertEqual(self.told(crate, more=function % made), [f'{crate}: it makes a Sums, or takes one apart'])
-            # A sum that is not counted, in the place of one that is.
-            self.assertEqual(self.told(f'shared_reduction{width}', ('let own = sum4(derivatives, vals, sums);', f'let own = interp_math{width}::dot4(derivatives, vals);'))[0],
-                             f'shared_reduction{width}: it names dot4')
+        # A sum that is not counted, in the place of one that is.
+        self.assertEqual(self.told('shared_reduction', ('let own = sum4(derivatives, vals, sums);', 'let own = interp_math::dot4(derivatives, vals);'))[0],
+                         'shared_reduction: it names dot4')
 
     def test_anywhere(self):
         """The other crates may take sums, but not on the way of this call; and none makes a number."""
@@ -229,28 +242,28 @@ class Text(InFolder):
             own = f'{kind}_with_grad{width}'
             # By another crate's function, and by one below that.
             function = '\npub fn beside(x: usize) -> usize {\n    dot4(x)\n}\n'
-            self.assertEqual(self.told(f'reduction{width}', more=function), [])
-            with open(os.path.join(self.path(f'reduction{width}'), 'lib.rt'), 'a', encoding='utf-8') as out:
+            self.assertEqual(self.told('reduction', more=function), [])
+            with open(os.path.join(self.path('reduction'), 'lib.rt'), 'a', encoding='utf-8') as out:
                 out.write(function)
-            for edit in (f'reduction{width}::beside(axis)', 'beside(axis)'):
-                more = f'use reduction{width}::beside;\n' if edit[0] == 'b' else ''
+            for edit in ('reduction::beside(axis)', 'beside(axis)'):
+                more = 'use reduction::beside;\n' if edit[0] == 'b' else ''
                 found = self.told(own, ('let given = x[axis];', f'let given = x[axis];\n        {edit};'), more=more)
-                self.assertEqual(found, takes('beside', f'reduction{width}'))
-            shutil.copytree(os.path.join(TOP, 'crates', f'reduction{width}', 'src'), self.path(f'reduction{width}'), dirs_exist_ok=True)
+                self.assertEqual(found, takes('beside', 'reduction'))
+            shutil.copytree(os.path.join(TOP, 'crates', 'reduction', 'src'), self.path('reduction'), dirs_exist_ok=True)
             # By the call that gives the value alone: first of all the function that takes its sums is told.
-            found = self.told(own, ('let checked = new(', f'let value = {kind}{width}::interp_one(axis_count);\n    let checked = new('))
-            self.assertEqual(found, [fault for call in calls for name in TAKING[1:] for fault in takes(name, f'reduction{width}', [call])])
+            found = self.told(own, ('match new(', f'let value = {kind}{width}::interp_one(axis_count);\n    match new('))
+            self.assertEqual(found, [fault for call in calls for fault in takes(SUMMING, 'reduction', [call])])
             # For C, beside the call or in its place.
             found = self.told(f'{kind}_lent{width}', (f'{kind}_with_grad{width}::interp_one_with_grad(', f'{kind}{width}::interp_one('))
             self.assertEqual(found, [fault for crate, call in calls[1:] for fault in (f'{call} of {crate} does not come to sum4', *(
-                fault for name in TAKING[1:] for fault in takes(name, f'reduction{width}', [(crate, call)])))])
-        for crate, sums in (('told', 'Sums'), ('capi_f32', 'SumsF32'), ('slices', 'Sums')):
-            self.assertEqual(self.told(crate, more=f'\nfn made() -> {sums} {{\n    {sums} {{ taken: 9 }}\n}}\n'), [f'{crate}: it makes a Sums, or takes one apart'])
-            self.assertEqual(self.told(crate, more=f'\nfn handed_on(sums: {sums}) -> {sums} {{\n    sums\n}}\n'), [])
+                takes(SUMMING, 'reduction', [(crate, call)])))])
+        for crate in ('told', 'capi_f32', 'slices'):
+            self.assertEqual(self.told(crate, more='\nfn made() -> Sums {\n    Sums { taken: 9 }\n}\n'), [f'{crate}: it makes a Sums, or takes one apart'])
+            self.assertEqual(self.told(crate, more='\nfn handed_on(sums: Sums) -> Sums {\n    sums\n}\n'), [])
 
     def test_what_is_not_there(self):
         """A crate or a call by another name is told, and not passed over."""
-        for crate in ('counted_sums', 'shared_reduction_f32', 'with_grad', 'rectilinear_with_grad_f32'):
+        for crate in ('counted_sums', 'shared_reduction', 'with_grad', 'rectilinear_with_grad_f32'):
             kept = self.path(crate) + '_kept'
             os.rename(self.path(crate), kept)
             self.assertEqual(faults(self.folder), [f'there is no crate {crate}'])

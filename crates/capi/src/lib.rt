@@ -25,6 +25,7 @@ pub extern "C" fn veltzuma_version() -> u32
 }
 
 // Takes a grid or turns it away.
+#[tactic(auto, unfolding(crate::specs::Calls::new_leaves, regular_lent::specs::Regular::regular_from))]
 #[unsafe(no_mangle)]
 pub extern "C" fn veltzuma_regular_new(
     axis_count: usize,
@@ -45,6 +46,7 @@ pub extern "C" fn veltzuma_regular_new(
 }
 
 // The place of a query: origin, class and marks on every axis.
+#[tactic(auto, unfolding(crate::specs::Calls::get_loc_leaves, regular_lent::specs::Regular::regular_from))]
 #[unsafe(no_mangle)]
 pub extern "C" fn veltzuma_regular_get_loc(
     axis_count: usize,
@@ -82,6 +84,7 @@ pub extern "C" fn veltzuma_regular_get_loc(
 }
 
 // The value at a query, and its marks. Of a value that is a NaN the contract says that it is one, and leaves its payload open.
+#[tactic(auto, unfolding(crate::specs::Calls::interp_one_leaves, regular_lent::specs::Regular::regular_from))]
 #[unsafe(no_mangle)]
 pub extern "C" fn veltzuma_regular_interp_one(
     axis_count: usize,
@@ -118,6 +121,7 @@ pub extern "C" fn veltzuma_regular_interp_one(
 }
 
 // The gradient at a query, and its marks. Of a component that is a NaN the contract says that it is one, and leaves its payload open.
+#[tactic(auto, unfolding(crate::specs::Calls::interp_one_grad_leaves, regular_lent::specs::Regular::regular_from))]
 #[unsafe(no_mangle)]
 pub extern "C" fn veltzuma_regular_interp_one_grad(
     axis_count: usize,
@@ -155,6 +159,7 @@ pub extern "C" fn veltzuma_regular_interp_one_grad(
 
 // Value and gradient at a query, their marks and the number of four-term sums that they took together, which is 0 on every refusal but 7. Of a number
 // that is a NaN the contract says that it is one, and leaves its payload open.
+#[tactic(auto, unfolding(crate::specs::Calls::interp_one_with_grad_leaves, regular_lent::specs::Regular::regular_from))]
 #[unsafe(no_mangle)]
 pub extern "C" fn veltzuma_regular_interp_one_with_grad(
     axis_count: usize,
@@ -193,6 +198,7 @@ pub extern "C" fn veltzuma_regular_interp_one_with_grad(
 }
 
 // The values of a batch. Of a value that is a NaN the contract says that it is one, and leaves its payload open.
+#[tactic(auto, unfolding(crate::specs::Calls::interp_leaves, regular_lent::specs::Regular::regular_from))]
 #[unsafe(no_mangle)]
 pub extern "C" fn veltzuma_regular_interp(
     axis_count: usize,
@@ -218,6 +224,7 @@ pub extern "C" fn veltzuma_regular_interp(
 }
 
 // The gradients of a batch. Of a component that is a NaN the contract says that it is one, and leaves its payload open.
+#[tactic(auto, unfolding(crate::specs::Calls::interp_grad_leaves, regular_lent::specs::Regular::regular_from))]
 #[unsafe(no_mangle)]
 pub extern "C" fn veltzuma_regular_interp_grad(
     axis_count: usize,
@@ -251,6 +258,7 @@ pub extern "C" fn veltzuma_regular_interp_grad(
 }
 
 // Takes a grid or turns it away.
+#[tactic(auto, unfolding(crate::specs::Calls::new_leaves, rectilinear_lent::specs::Rectilinear::rectilinear_from))]
 #[unsafe(no_mangle)]
 pub extern "C" fn veltzuma_rectilinear_new(
     axis_count: usize,
@@ -269,6 +277,7 @@ pub extern "C" fn veltzuma_rectilinear_new(
 }
 
 // The place of a query: origin, class and marks on every axis.
+#[tactic(auto, unfolding(crate::specs::Calls::get_loc_leaves, rectilinear_lent::specs::Rectilinear::rectilinear_from))]
 #[unsafe(no_mangle)]
 pub extern "C" fn veltzuma_rectilinear_get_loc(
     axis_count: usize,
@@ -305,6 +314,7 @@ pub extern "C" fn veltzuma_rectilinear_get_loc(
 }
 
 // The value at a query, and its marks. Of a value that is a NaN the contract says that it is one, and leaves its payload open.
+#[tactic(auto, unfolding(crate::specs::Calls::interp_one_leaves, rectilinear_lent::specs::Rectilinear::rectilinear_from))]
 #[unsafe(no_mangle)]
 pub extern "C" fn veltzuma_rectilinear_interp_one(
     axis_count: usize,
@@ -348,6 +358,7 @@ pub extern "C" fn veltzuma_rectilinear_interp_one(
 }
 
 // The gradient at a query, and its marks. Of a component that is a NaN the contract says that it is one, and leaves its payload open.
+#[tactic(auto, unfolding(crate::specs::Calls::interp_one_grad_leaves, rectilinear_lent::specs::Rectilinear::rectilinear_from))]
 #[unsafe(no_mangle)]
 pub extern "C" fn veltzuma_rectilinear_interp_one_grad(
     axis_count: usize,
@@ -392,6 +403,7 @@ pub extern "C" fn veltzuma_rectilinear_interp_one_grad(
 
 // Value and gradient at a query, their marks and the number of four-term sums that they took together, which is 0 on every refusal but 7. Of a number
 // that is a NaN the contract says that it is one, and leaves its payload open.
+#[tactic(auto, unfolding(crate::specs::Calls::interp_one_with_grad_leaves, rectilinear_lent::specs::Rectilinear::rectilinear_from))]
 #[unsafe(no_mangle)]
 pub extern "C" fn veltzuma_rectilinear_interp_one_with_grad(
     axis_count: usize,
@@ -430,6 +442,7 @@ pub extern "C" fn veltzuma_rectilinear_interp_one_with_grad(
 }
 
 // The values of a batch. Of a value that is a NaN the contract says that it is one, and leaves its payload open.
+#[tactic(auto, unfolding(crate::specs::Calls::interp_leaves, rectilinear_lent::specs::Rectilinear::rectilinear_from))]
 #[unsafe(no_mangle)]
 pub extern "C" fn veltzuma_rectilinear_interp(
     axis_count: usize,
@@ -463,6 +476,7 @@ pub extern "C" fn veltzuma_rectilinear_interp(
 }
 
 // The gradients of a batch. Of a component that is a NaN the contract says that it is one, and leaves its payload open.
+#[tactic(auto, unfolding(crate::specs::Calls::interp_grad_leaves, rectilinear_lent::specs::Rectilinear::rectilinear_from))]
 #[unsafe(no_mangle)]
 pub extern "C" fn veltzuma_rectilinear_interp_grad(
     axis_count: usize,

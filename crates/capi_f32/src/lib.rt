@@ -13,8 +13,7 @@ ghost use Rattle.capi.specs.Calls.{version, new_leaves, get_loc_leaves, interp_o
 
 use slices::{check_query_slices, check_slices, counts_from, least, mode_of, named, shortest_of};
 use slices_f32::{axes_from, query_from};
-use told::{tell, tell_places};
-use told_f32::{tell_both, tell_gradient, tell_value};
+use told::{tell, tell_both, tell_gradient, tell_places, tell_value};
 
 // The version of these calls, which a caller compares with the one that its declarations are of.
 #[unsafe(no_mangle)]
@@ -25,6 +24,7 @@ pub extern "C" fn veltzuma_version_f32() -> u32
 }
 
 // Takes a grid or turns it away.
+#[tactic(auto, unfolding(capi::specs::Calls::new_leaves, regular_lent::specs::Regular::regular_from))]
 #[unsafe(no_mangle)]
 pub extern "C" fn veltzuma_regular_new_f32(
     axis_count: usize,
@@ -45,6 +45,7 @@ pub extern "C" fn veltzuma_regular_new_f32(
 }
 
 // The place of a query: origin, class and marks on every axis.
+#[tactic(auto, unfolding(capi::specs::Calls::get_loc_leaves, regular_lent::specs::Regular::regular_from))]
 #[unsafe(no_mangle)]
 pub extern "C" fn veltzuma_regular_get_loc_f32(
     axis_count: usize,
@@ -82,6 +83,7 @@ pub extern "C" fn veltzuma_regular_get_loc_f32(
 }
 
 // The value at a query, and its marks. Of a value that is a NaN the contract says that it is one, and leaves its payload open.
+#[tactic(auto, unfolding(capi::specs::Calls::interp_one_leaves, regular_lent::specs::Regular::regular_from))]
 #[unsafe(no_mangle)]
 pub extern "C" fn veltzuma_regular_interp_one_f32(
     axis_count: usize,
@@ -118,6 +120,7 @@ pub extern "C" fn veltzuma_regular_interp_one_f32(
 }
 
 // The gradient at a query, and its marks. Of a component that is a NaN the contract says that it is one, and leaves its payload open.
+#[tactic(auto, unfolding(capi::specs::Calls::interp_one_grad_leaves, regular_lent::specs::Regular::regular_from))]
 #[unsafe(no_mangle)]
 pub extern "C" fn veltzuma_regular_interp_one_grad_f32(
     axis_count: usize,
@@ -162,6 +165,7 @@ pub extern "C" fn veltzuma_regular_interp_one_grad_f32(
 
 // Value and gradient at a query, their marks and the number of four-term sums that they took together, which is 0 on every refusal but 7. Of a number
 // that is a NaN the contract says that it is one, and leaves its payload open.
+#[tactic(auto, unfolding(capi::specs::Calls::interp_one_with_grad_leaves, regular_lent::specs::Regular::regular_from))]
 #[unsafe(no_mangle)]
 pub extern "C" fn veltzuma_regular_interp_one_with_grad_f32(
     axis_count: usize,
@@ -200,6 +204,7 @@ pub extern "C" fn veltzuma_regular_interp_one_with_grad_f32(
 }
 
 // The values of a batch. Of a value that is a NaN the contract says that it is one, and leaves its payload open.
+#[tactic(auto, unfolding(capi::specs::Calls::interp_leaves, regular_lent::specs::Regular::regular_from))]
 #[unsafe(no_mangle)]
 pub extern "C" fn veltzuma_regular_interp_f32(
     axis_count: usize,
@@ -233,6 +238,7 @@ pub extern "C" fn veltzuma_regular_interp_f32(
 }
 
 // The gradients of a batch. Of a component that is a NaN the contract says that it is one, and leaves its payload open.
+#[tactic(auto, unfolding(capi::specs::Calls::interp_grad_leaves, regular_lent::specs::Regular::regular_from))]
 #[unsafe(no_mangle)]
 pub extern "C" fn veltzuma_regular_interp_grad_f32(
     axis_count: usize,
@@ -266,6 +272,7 @@ pub extern "C" fn veltzuma_regular_interp_grad_f32(
 }
 
 // Takes a grid or turns it away.
+#[tactic(auto, unfolding(capi::specs::Calls::new_leaves, rectilinear_lent::specs::Rectilinear::rectilinear_from))]
 #[unsafe(no_mangle)]
 pub extern "C" fn veltzuma_rectilinear_new_f32(
     axis_count: usize,
@@ -284,6 +291,7 @@ pub extern "C" fn veltzuma_rectilinear_new_f32(
 }
 
 // The place of a query: origin, class and marks on every axis.
+#[tactic(auto, unfolding(capi::specs::Calls::get_loc_leaves, rectilinear_lent::specs::Rectilinear::rectilinear_from))]
 #[unsafe(no_mangle)]
 pub extern "C" fn veltzuma_rectilinear_get_loc_f32(
     axis_count: usize,
@@ -328,6 +336,7 @@ pub extern "C" fn veltzuma_rectilinear_get_loc_f32(
 }
 
 // The value at a query, and its marks. Of a value that is a NaN the contract says that it is one, and leaves its payload open.
+#[tactic(auto, unfolding(capi::specs::Calls::interp_one_leaves, rectilinear_lent::specs::Rectilinear::rectilinear_from))]
 #[unsafe(no_mangle)]
 pub extern "C" fn veltzuma_rectilinear_interp_one_f32(
     axis_count: usize,
@@ -371,6 +380,7 @@ pub extern "C" fn veltzuma_rectilinear_interp_one_f32(
 }
 
 // The gradient at a query, and its marks. Of a component that is a NaN the contract says that it is one, and leaves its payload open.
+#[tactic(auto, unfolding(capi::specs::Calls::interp_one_grad_leaves, rectilinear_lent::specs::Rectilinear::rectilinear_from))]
 #[unsafe(no_mangle)]
 pub extern "C" fn veltzuma_rectilinear_interp_one_grad_f32(
     axis_count: usize,
@@ -415,6 +425,7 @@ pub extern "C" fn veltzuma_rectilinear_interp_one_grad_f32(
 
 // Value and gradient at a query, their marks and the number of four-term sums that they took together, which is 0 on every refusal but 7. Of a number
 // that is a NaN the contract says that it is one, and leaves its payload open.
+#[tactic(auto, unfolding(capi::specs::Calls::interp_one_with_grad_leaves, rectilinear_lent::specs::Rectilinear::rectilinear_from))]
 #[unsafe(no_mangle)]
 pub extern "C" fn veltzuma_rectilinear_interp_one_with_grad_f32(
     axis_count: usize,
@@ -453,6 +464,7 @@ pub extern "C" fn veltzuma_rectilinear_interp_one_with_grad_f32(
 }
 
 // The values of a batch. Of a value that is a NaN the contract says that it is one, and leaves its payload open.
+#[tactic(auto, unfolding(capi::specs::Calls::interp_leaves, rectilinear_lent::specs::Rectilinear::rectilinear_from))]
 #[unsafe(no_mangle)]
 pub extern "C" fn veltzuma_rectilinear_interp_f32(
     axis_count: usize,
@@ -486,6 +498,7 @@ pub extern "C" fn veltzuma_rectilinear_interp_f32(
 }
 
 // The gradients of a batch. Of a component that is a NaN the contract says that it is one, and leaves its payload open.
+#[tactic(auto, unfolding(capi::specs::Calls::interp_grad_leaves, rectilinear_lent::specs::Rectilinear::rectilinear_from))]
 #[unsafe(no_mangle)]
 pub extern "C" fn veltzuma_rectilinear_interp_grad_f32(
     axis_count: usize,

@@ -5,8 +5,9 @@ use Prim.Native.Nat.{ℕ, ◌≤◌, min}
 use lib.Dec.{ltb}
 use lib.Ieee.{Format}
 use borrow.Author.Tests.{ltb-false}
-use Rattle.multicubic.specs.declared.Outcome.{Outcome}
-use Rattle.multicubic.specs.declared.Outcome.TheVariants.{Accepted, Refused}
+use Rattle.std.specs.Prelude.{Err, Ok}
+use Rattle.multicubic.specs.declared.Check.TheVariants.{WrongLength, BatchLength}
+use Rattle.multicubic.specs.Types.{Outcome, accepted as taken}
 use Rattle.multicubic.specs.Grid.{refuse}
 use Rattle.multicubic.proofs.Passed.{not-accepted, then_accepted, refuse-accepted}
 use Rattle.grid.specs.Query.{Grid}
@@ -17,14 +18,14 @@ use Rattle.guarantees.specs.Statements.{IsAccepted}
 use Rattle.guarantees.proofs.Nodes.{Supplied}
 use Rattle.guarantees.proofs.Blocks.{Counted}
 
-earlier-accepted : (slices checked : Outcome) → earlier slices checked ≡ Accepted → (slices ≡ Accepted) × (checked ≡ Accepted)
-earlier-accepted Accepted checked e = (refl, e)
-earlier-accepted (Refused number query axis) Accepted e = absurd (not-accepted number query axis e)
-earlier-accepted (Refused number query axis) (Refused k q a) e = absurd (go (grid_first k number) e)
+earlier-accepted : (slices checked : Outcome) → earlier slices checked ≡ taken → (slices ≡ taken) × (checked ≡ taken)
+earlier-accepted (Ok _) checked e = (refl, e)
+earlier-accepted (Err short) (Ok _) e = absurd (not-accepted short e)
+earlier-accepted (Err short) (Err own) e = absurd (go (grid_first own.check short.check) e)
   where
-    go : (b : Bool) → cond b (Refused k q a) (Refused number query axis) ≡ Accepted → ⊥
-    go true e = not-accepted k q a e
-    go false e = not-accepted number query axis e
+    go : (b : Bool) → ◌≡◌ {A = Outcome} (cond b (Err own) (Err short)) taken → ⊥
+    go true e = not-accepted own e
+    go false e = not-accepted short e
 
 module _ (slices : Outcome) (g : Grid) where
   pub accepted : IsAccepted (lent slices g) → IsAccepted g
@@ -56,7 +57,7 @@ module _ (s : Gathered) (refusal : ℕ) where
 
   pub refusal-holds : IsAccepted (lent_to s refusal) → 2 ≤ refusal
   unfolding slices_of
-  refusal-holds e = ltb-false refusal 2 (refuse-accepted _ 7 (then_accepted (refuse (ltb s.shortest s.grid.axis-count) 3) _ (earlier-accepted slices s.grid.checked e).0).1)
+  refusal-holds e = ltb-false refusal 2 (refuse-accepted _ BatchLength (then_accepted (refuse (ltb s.shortest s.grid.axis-count) WrongLength) _ (earlier-accepted slices s.grid.checked e).0).1)
 
 -- to a single query: what is to be written has room, and so have the marks
 module _ (s : Gathered) (query refusal room need marks : ℕ) where
@@ -72,17 +73,17 @@ module _ (s : Gathered) (query refusal room need marks : ℕ) where
   pub counted-to-query : Counted s.grid → Counted (lent_to_query s query refusal room need marks)
   counted-to-query = lent-counted query-slices s.grid
 
-  roomy : IsAccepted (lent_to_query s query refusal room need marks) → (refuse (ltb room need) 7 ≡ Accepted) × (refuse (ltb marks s.grid.axis-count) 7 ≡ Accepted)
+  roomy : IsAccepted (lent_to_query s query refusal room need marks) → (refuse (ltb room need) BatchLength ≡ taken) × (refuse (ltb marks s.grid.axis-count) BatchLength ≡ taken)
   unfolding query_slices_of
   roomy e =
-      then_accepted (refuse (ltb room need) 7) _
+      then_accepted (refuse (ltb room need) BatchLength) _
       (then_accepted (slices_of s.grid.axis-count (min s.shortest query) refusal) _ (earlier-accepted query-slices s.grid.checked e).0).1
 
   pub has_room : IsAccepted (lent_to_query s query refusal room need marks) → need ≤ room
-  has_room e = ltb-false room need (refuse-accepted _ 7 (roomy e).0)
+  has_room e = ltb-false room need (refuse-accepted _ BatchLength (roomy e).0)
 
   pub has-marks : IsAccepted (lent_to_query s query refusal room need marks) → s.grid.axis-count ≤ marks
-  has-marks e = ltb-false marks s.grid.axis-count (refuse-accepted _ 7 (roomy e).1)
+  has-marks e = ltb-false marks s.grid.axis-count (refuse-accepted _ BatchLength (roomy e).1)
 
   -- the grid as it is lent is the grid itself
   pub whole-query : IsAccepted (lent_to_query s query refusal room need marks) → s.grid ≡ lent_to_query s query refusal room need marks

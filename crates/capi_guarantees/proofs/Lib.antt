@@ -6,3 +6,4 @@ pub mod Owed
 pub mod Unmarked
 pub mod Gathered
 pub mod Relied
+pub mod Calls

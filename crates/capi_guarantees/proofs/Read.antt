@@ -4,7 +4,7 @@ use mathlib.Core.Path.{◌≡◌, refl, sym, ap, ◌∙◌, subst}
 use mathlib.Core.Bool.{Bool, true, false, cond}
 use mathlib.Core.Logic.{◌⊎◌, inl, inr}
 use mathlib.Core.List.{List, [], ◌∷◌, ◌++◌}
-use Prim.Native.Nat.{ℕ, zero, suc, ◌+◌, ◌≤◌, ◌<◌, min}
+use Prim.Native.Nat.{ℕ, zero, suc, ◌≤◌, ◌<◌, min}
 use native.Mathlib.Nat.{min-le_left, min-le_right}
 use native.Mathlib.Omega.{arith}
 use lib.Dec.{eqb}
@@ -12,12 +12,14 @@ use lib.ListN.{length, get_or, take, set, length-append}
 use lib.Seq.{get_or-set_same, get_or-set_other, length-take-le}
 use lib.Ieee.{Float, nan, Format}
 use borrow.Author.Tests.{eqb-true, le-ltb}
-use Rattle.multicubic.specs.declared.Answer.{Answer}
-use Rattle.multicubic.specs.declared.Answer.TheVariants.{Value}
+use Rattle.std.specs.Prelude.{Err, Ok}
+use Rattle.multicubic.specs.declared.Check.{Check}
+use Rattle.multicubic.specs.declared.Check.TheVariants.{AxisCount, TooLarge, WrongLength, TooFew, NotRising, Disordered, BatchLength, NoPlace, NoNumber, NotSteep}
+use Rattle.multicubic.specs.declared.Refusal.{Refusal}
+use Rattle.multicubic.specs.Types.{Answer, Outcome, accepted, refusal}
+use Rattle.multicubic.proofs.Passed.{not-accepted}
 use Rattle.multicubic.specs.declared.Marks.{Marks}
-use Rattle.multicubic.specs.declared.Outcome.{Outcome}
-use Rattle.multicubic.specs.declared.Outcome.TheVariants.{Accepted, Refused}
-use Rattle.multicubic.specs.Answers.{number_of, query_of, axis_of, answered, answer_outcome}
+use Rattle.multicubic.specs.Answers.{check_number, number_of, query_of, axis_of, answered, answer_outcome}
 use Rattle.multicubic.proofs.Said.{outcome_of_lem}
 use Rattle.grid.specs.Query.{Grid, at, four_of, outcome_of, value_answer, gradient_answer, mark_answer}
 use Rattle.guarantees.specs.Statements.{IsAccepted, Reached}
@@ -26,16 +28,25 @@ use Rattle.slices.specs.Slices.{query_from}
 use Rattle.slices.specs.Lent.{Gathered, lent_to_query}
 use Rattle.told.specs.Told.{over, with_value, with_first, with_sums, Leaves, leaves, leaves_marked}
 use Rattle.capi.specs.Calls.{interp_one_leaves, interp_one_grad_leaves, interp_one_with_grad_leaves}
-use Rattle.capi_guarantees.specs.Statements.{outcome_read, answer_read, LeavesBoth, value_part, gradient_part, lent_to_both}
+use Rattle.capi_guarantees.specs.Statements.{check_read, outcome_read, answer_read, LeavesBoth, value_part, gradient_part, lent_to_both}
 use Rattle.capi_guarantees.proofs.Lent.{has_room, has-marks}
 
 -- ---- a batch
-number-kept : (k q a : ℕ) → number_of (cond (eqb k 0) Accepted (Refused k q a)) ≡ k
-number-kept k q a = go (eqb k 0) refl
-  where
-    go : (b : Bool) → eqb k 0 ≡ b → number_of (cond b Accepted (Refused k q a)) ≡ k
-    go true e = sym (eqb-true k 0 e)
-    go false e = refl
+check-kept : (check : Check) (q a : ℕ) → number_of (cond (eqb (check_number check) 0) accepted (Err (refusal (check_read (check_number check)) q a))) ≡ check_number check
+check-kept AxisCount q a = refl
+check-kept TooLarge q a = refl
+check-kept WrongLength q a = refl
+check-kept TooFew q a = refl
+check-kept NotRising q a = refl
+check-kept Disordered q a = refl
+check-kept BatchLength q a = refl
+check-kept NoPlace q a = refl
+check-kept NoNumber q a = refl
+check-kept NotSteep q a = refl
+
+number-kept : (o : Outcome) (q a : ℕ) → number_of (cond (eqb (number_of o) 0) accepted (Err (refusal (check_read (number_of o)) q a))) ≡ number_of o
+number-kept (Ok _) q a = refl
+number-kept (Err by) q a = check-kept by.check q a
 
 -- the number that is read is 8 or 9 where the outcome's is
 pub as_read : {k n : ℕ} → k ≡ n → (n ≡ 8) ⊎ (n ≡ 9) → (k ≡ 8) ⊎ (k ≡ 9)
@@ -47,7 +58,7 @@ module _ {W : Type 0} (refusal : List ℕ) (written : W) where
   there o two = get_or-set_other (set refusal 0 (query_of o)) 1 0 (axis_of o) 0 (λ z. omega arith) ∙ get_or-set_same refusal 0 (query_of o) 0 (omega arith)
 
   pub number_read : (o : Outcome) → number_of (outcome_read (leaves o refusal written)) ≡ number_of o
-  number_read o = number-kept (number_of o) _ _
+  number_read o = number-kept o _ _
 
   pub query-read : (o : Outcome) → 2 ≤ length refusal → (number_of o ≡ 8) ⊎ (number_of o ≡ 9) → query_of (outcome_read (leaves o refusal written)) ≡ query_of o
   query-read o two (inl e) = rw (e, le-ltb (length refusal) 2 two) (there o two)
@@ -69,29 +80,29 @@ over_first (suc n) (x ∷ xs) [] h room = absurd (omega arith)
 over_first (suc n) (x ∷ xs) (y ∷ before) h room = ap (λ zs. x ∷ zs) (over_first n xs before (omega arith) (omega arith))
 
 four-long : {A : Type 0} (o : Outcome) (other : A) (xs : List A) → length (four_of o other xs) ≡ 4
-four-long (Refused k q a) other xs = refl
-four-long Accepted other xs = length-take-le 4 (xs ++ (other ∷ other ∷ other ∷ other ∷ [])) (omega (arith, length-append xs (other ∷ other ∷ other ∷ other ∷ [])))
+four-long (Err r) other xs = refl
+four-long (Ok _) other xs = length-take-le 4 (xs ++ (other ∷ other ∷ other ∷ other ∷ [])) (omega (arith, length-append xs (other ∷ other ∷ other ∷ other ∷ [])))
 
 -- a value that is told and written, and a gradient, where there is room
 module _ (refusal marks : List ℕ) (out : List Float) (n : ℕ) (pairs : List Marks) where
-  value-told : {answer : Answer} (v : Float) → 1 ≤ length out → answer ≡ Value v → answer_read (leaves_marked (answer_outcome answer) refusal (with_value answer out) n pairs marks) ≡ Value v
+  value-told : {answer : Answer} (v : Float) → 1 ≤ length out → answer ≡ Ok v → answer_read (leaves_marked (answer_outcome answer) refusal (with_value answer out) n pairs marks) ≡ Ok v
   value-told v room e =
-      let entry : answer_read (leaves_marked Accepted refusal (set out 0 v) n pairs marks) ≡ Value v = ap Value (get_or-set_same out 0 v nan (omega arith)) in
+      let entry : answer_read (leaves_marked accepted refusal (set out 0 v) n pairs marks) ≡ Ok v = ap Ok (get_or-set_same out 0 v nan (omega arith)) in
       ap (λ a. answer_read (leaves_marked (answer_outcome a) refusal (with_value a out) n pairs marks)) e ∙ entry
 
-  gradient-told : {o : Outcome} (xs : List Float) → length xs ≡ 4 → n ≤ 4 → n ≤ length out → o ≡ Accepted
-      → (outcome_read (leaves_marked o refusal (with_first o n xs out) n pairs marks) ≡ Accepted) × (take n (with_first o n xs out) ≡ take n xs)
+  gradient-told : {o : Outcome} (xs : List Float) → length xs ≡ 4 → n ≤ 4 → n ≤ length out → o ≡ accepted
+      → (outcome_read (leaves_marked o refusal (with_first o n xs out) n pairs marks) ≡ accepted) × (take n (with_first o n xs out) ≡ take n xs)
   gradient-told xs four few room e =
       (ap (λ o. outcome_read (leaves_marked o refusal (with_first o n xs out) n pairs marks)) e, ap (λ o. take n (with_first o n xs out)) e ∙ over_first n xs out (omega arith) room)
 
 -- what is lent to a call lets a value be read after it, and a gradient
 module _ (f : Format) (g : Grid) (query : ℕ → Float) (left : Leaves (List Float × List ℕ)) where
   abbrev pub ReadsValue : Type 0
-  ReadsValue = (v : Float) → IsAccepted g → value_answer f g query ≡ Value v → answer_read left ≡ Value v
+  ReadsValue = (v : Float) → IsAccepted g → value_answer f g query ≡ Ok v → answer_read left ≡ Ok v
 
   abbrev pub ReadsGradient : Type 0
-  ReadsGradient = g.axis-count ≤ 4 → IsAccepted g → outcome_of g query ≡ Accepted
-      → (outcome_read left ≡ Accepted) × (take g.axis-count left.written.0 ≡ take g.axis-count (gradient_answer f g query))
+  ReadsGradient = g.axis-count ≤ 4 → IsAccepted g → outcome_of g query ≡ accepted
+      → (outcome_read left ≡ accepted) × (take g.axis-count left.written.0 ≡ take g.axis-count (gradient_answer f g query))
 
 module _ (f : Format) (s : Gathered) (x : List Float) (refusal marks : List ℕ) where
   abbrev query : ℕ → Float
@@ -145,7 +156,7 @@ module _ (f : Format) (s : Gathered) (x : List Float) (refusal marks : List ℕ)
         gradient-told refusal marks gradient n pairs (gradient_answer f both query) (four-long (outcome_of both query) _ _)
         few (omega (arith, min-le_left (length gradient) (length marks))) (outcome_of_lem (outcome_of both query) _ ∙ e)
 
-    pub sums-read : IsAccepted both → outcome_of both query ≡ Accepted → get_or left.written.0.1 0 0 ≡ steps_of n
+    pub sums-read : IsAccepted both → outcome_of both query ≡ accepted → get_or left.written.0.1 0 0 ≡ steps_of n
     unfolding interp_one_with_grad_leaves
     sums-read taken e =
         let enough = room taken in
@@ -153,12 +164,19 @@ module _ (f : Format) (s : Gathered) (x : List Float) (refusal marks : List ℕ)
         ∙ get_or-set_same sums 0 (sums_answer both query) 0 (omega (arith, min-le_right (length value) (length sums))) ∙ ap (λ o. sums_of o n) e
 
 -- ---- and what is read stands there: the number is 0, and the value is entry 0
-pub accepted_there : {W : Type 0} (left : Leaves W) → outcome_read left ≡ Accepted → left.number ≡ 0
-accepted_there left e = sym (number-kept left.number _ _) ∙ ap number_of e
+pub accepted_there : {W : Type 0} (left : Leaves W) → outcome_read left ≡ accepted → left.number ≡ 0
+accepted_there left e = go (eqb left.number 0) refl e
+  where
+    by : Refusal
+    by = refusal (check_read left.number) (get_or left.refusal 0 0) (get_or left.refusal 1 0)
 
-pub value_there : (left : Leaves (List Float × List ℕ)) (v : Float) → answer_read left ≡ Value v → (left.number ≡ 0) × (get_or left.written.0 0 nan ≡ v)
+    go : (b : Bool) → eqb left.number 0 ≡ b → ◌≡◌ {A = Outcome} (cond b accepted (Err by)) accepted → left.number ≡ 0
+    go true z e = eqb-true left.number 0 z
+    go false z e = absurd (not-accepted by e)
+
+pub value_there : (left : Leaves (List Float × List ℕ)) (v : Float) → answer_read left ≡ Ok v → (left.number ≡ 0) × (get_or left.written.0 0 nan ≡ v)
 value_there left v = go (outcome_read left) refl
   where
-    go : (o : Outcome) → outcome_read left ≡ o → answered o (get_or left.written.0 0 nan) ≡ Value v → (left.number ≡ 0) × (get_or left.written.0 0 nan ≡ v)
-    go Accepted e r = (accepted_there left e, cc)
-    go (Refused k q a) e r = let z : ◌≡◌ {A = ℕ} 0 1 = cc in absurd (omega arith)
+    go : (o : Outcome) → outcome_read left ≡ o → answered o (get_or left.written.0 0 nan) ≡ Ok v → (left.number ≡ 0) × (get_or left.written.0 0 nan ≡ v)
+    go (Ok _) e r = (accepted_there left e, cc)
+    go (Err by) e r = let z : ◌≡◌ {A = ℕ} 0 1 = cc in absurd (omega arith)

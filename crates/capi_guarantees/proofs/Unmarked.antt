@@ -6,8 +6,7 @@ use native.Mathlib.Nat.{min-le_right}
 use native.Mathlib.Omega.{arith}
 use lib.ListN.{length, take}
 use lib.Ieee.{Float, Format}
-use Rattle.multicubic.specs.declared.Outcome.{Outcome}
-use Rattle.multicubic.specs.declared.Outcome.TheVariants.{Accepted}
+use Rattle.multicubic.specs.Types.{Outcome, accepted}
 use Rattle.multicubic.specs.declared.Marks.{Marks}
 use Rattle.multicubic.specs.Place.{unmarked}
 use Rattle.multicubic.specs.Grid.{◌then◌}
@@ -34,15 +33,15 @@ use Rattle.capi_guarantees.proofs.Read.{over_first}
 -- on any grid: at a node a query is placed
 module _ (f : Format) (premises : Type 0) (g : Grid) (kind : Supplied f premises g) (query : ℕ → Float) (typed : Typed f query) (node : List ℕ)
     (taken : IsAccepted g) (within : premises) (here : AtIndex 0 g.axes node query) where
-  placed : outcome_of g query ≡ Accepted
+  placed : outcome_of g query ≡ accepted
   placed =
       let found = (found_at query 0 g.axes node (kind.sized taken).long (at_each f query typed 0 g.axes node (kind.laws taken within) here)).found in
       λ i. taken i then found_outcome 0 (found i)
 
 -- marks that are unset are written as zeros
 zeros : (n : ℕ) (pairs : List Marks) (before : List ℕ) → n ≤ 4 → n ≤ length before → pairs ≡ unmarked ∷ unmarked ∷ unmarked ∷ unmarked ∷ []
-    → take n (with_marks Accepted n pairs before) ≡ take n (0 ∷ 0 ∷ 0 ∷ 0 ∷ [])
-zeros n pairs before few room e = ap (λ (ms : List Marks). take n (with_marks Accepted n ms before)) e ∙ over_first n (0 ∷ 0 ∷ 0 ∷ 0 ∷ []) before few room
+    → take n (with_marks accepted n pairs before) ≡ take n (0 ∷ 0 ∷ 0 ∷ 0 ∷ [])
+zeros n pairs before few room e = ap (λ (ms : List Marks). take n (with_marks accepted n ms before)) e ∙ over_first n (0 ∷ 0 ∷ 0 ∷ 0 ∷ []) before few room
 
 module _ (f : Format) (premises : Type 0) (s : Gathered) (kind : Supplied f premises s.grid) (counted : Counted s.grid)
     (unset : (query : ℕ → Float) → UnmarkedAtNode premises s.grid query (mark_answer s.grid query)) where
@@ -65,7 +64,7 @@ module _ (f : Format) (premises : Type 0) (s : Gathered) (kind : Supplied f prem
         let few = (counted-to-query s (length x) (length refusal) room need least counted taken).1 in
         let enough = has-marks s (length x) (length refusal) room need least taken in
         let long : n ≤ length marks = omega arith in
-        let none = unset query node (subst (λ (g : Grid). g.checked ≡ Accepted) (sym whole) taken) within here in (
+        let none = unset query node (subst (λ (g : Grid). g.checked ≡ accepted) (sym whole) taken) within here in (
           ap number_of o,
           ap (λ (u : Outcome). take n (with_marks u n (mark_answer one query) marks)) o
               ∙ zeros n (mark_answer one query) marks few long

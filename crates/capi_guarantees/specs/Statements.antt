@@ -1,10 +1,10 @@
 -- What is guaranteed of the calls for C: section 8 as `guarantees` states it, of what a caller reads after a call, on gathered grids of
 -- either kind and in any format. A grid is accepted as it is lent to the call: then every slice is long enough too.
-use Rattle.std.specs.Prelude.{◌≡◌, ℕ, min, cond, List, [], ◌∷◌, eqb, length, get_or, take, Float}
+use Rattle.std.specs.Prelude.{◌≡◌, ℕ, ◌-◌, min, cond, List, [], ◌∷◌, Err, eqb, length, get_or, take, Float}
 use Rattle.std.specs.Float.{nan, Format}
-use Rattle.multicubic.specs.declared.Answer.{Answer}
-use Rattle.multicubic.specs.declared.Outcome.{Outcome}
-use Rattle.multicubic.specs.declared.Outcome.TheVariants.{Accepted, Refused}
+use Rattle.multicubic.specs.declared.Check.{Check}
+use Rattle.multicubic.specs.declared.Check.TheVariants.{AxisCount, TooLarge, WrongLength, TooFew, NotRising, Disordered, BatchLength, NoPlace, NoNumber, NotSteep}
+use Rattle.multicubic.specs.Types.{Answer, Outcome, accepted, refusal}
 use Rattle.multicubic.specs.Answers.{answered}
 use Rattle.grid.specs.Query.{Grid, at}
 use Rattle.grid.specs.Nodes.{AtIndex, Fits}
@@ -16,9 +16,14 @@ use Rattle.told.specs.Told.{Leaves}
 use Rattle.capi.specs.Calls.{get_loc_leaves, interp_one_leaves, interp_one_grad_leaves, interp_one_with_grad_leaves, interp_leaves, interp_grad_leaves}
 
 -- ---- what a caller reads
+-- the check of a number; one that is none's, which no call gives, is read as the last
+abbrev pub check_read : ℕ → Check
+check_read number =
+    get_or (AxisCount ∷ TooLarge ∷ WrongLength ∷ TooFew ∷ NotRising ∷ Disordered ∷ BatchLength ∷ NoPlace ∷ NoNumber ∷ NotSteep ∷ []) (number - 1) NotSteep
+
 -- number 0 is acceptance; on any other but 7, query and axis stand in `refusal` where it has two entries or more, as a grid that is accepted as lent asks
 abbrev pub outcome_read : {W : Type 0} → Leaves W → Outcome
-outcome_read left = cond (eqb left.number 0) Accepted (Refused left.number (get_or left.refusal 0 0) (get_or left.refusal 1 0))
+outcome_read left = cond (eqb left.number 0) accepted (Err (refusal (check_read left.number) (get_or left.refusal 0 0) (get_or left.refusal 1 0)))
 
 -- the value is entry 0 of what is written; the marks stand beside it
 abbrev pub answer_read : Leaves (List Float × List ℕ) → Answer

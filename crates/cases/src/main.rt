@@ -3,93 +3,104 @@
 #![tactic(auto)]
 
 use cases_calls::{
-    Score, answer_of, answered, cubic, held, kept, not_placed, rectilinear,
-    rectilinear_refused_order, refused_batch, regular, regular_from, told, walk, with_buffers,
+    ABOVE, NEITHER, Score, answer_of, answered, cubic, held, kept, not_placed, placed, rectilinear,
+    rectilinear_refused_order, refused_batch, regular, regular_from, told, told_all, with_buffers,
     zeros,
 };
 use cases_marks::marked_cases;
 use cases_missing::missing_cases;
 use cases_refusals::refusals;
-use harness_batches::{marked_words, run_batches};
+use harness_batches::{marked, run_batches};
 use harness_corpus::{Group, part, refusal};
-use harness_report::{say, say_number};
 use harness_with_grad::same_single;
-use harness_words::{bits_of, clear};
+use harness_words::Tally;
+use multicubic::{Check, Place, Saturation};
 use std::io;
 
 // The numbers hold on both kinds: at 1.5 3.375, slope 6.25; at 4 as given.
 fn cubes_on(
     rt: &impl Print,
-    s: Score,
+    s: &mut Score,
     g: Group,
-    value: u64,
-    slope: u64,
-    at_1_5: &[u8],
-    at_4: &[u8],
-) -> io::Result<Score> {
+    value: f64,
+    slope: f64,
+    at_1_5: &str,
+    at_4: &str,
+) -> io::Result<()> {
     let x = [0.0, 1.0, 2.0, 3.0];
     let v = [0.0, 1.0, 8.0, 27.0];
-    let s = answered(
+    answered(
         rt,
         s,
         g,
         &x,
         &v,
         1.5,
-        0,
-        0x400B_0000_0000_0000,
-        0x4019_0000_0000_0000,
+        placed(0, Saturation::None),
+        3.375,
+        6.25,
         at_1_5,
     )?;
-    answered(rt, s, g, &x, &v, 4.0, 4, value, slope, at_4)
+    answered(
+        rt,
+        s,
+        g,
+        &x,
+        &v,
+        4.0,
+        placed(0, Saturation::OutsideHigh),
+        value,
+        slope,
+        at_4,
+    )
 }
 
 // Linearised at 4: 52, slope 25. Cubic: 58, and the slope 37, which the clause does not give.
-fn cubes(rt: &impl Print, s: Score) -> io::Result<Score> {
+fn cubes(rt: &impl Print, s: &mut Score) -> io::Result<()> {
     let g = regular(1, 4, 0, 0, 1.0, 1.0);
     let h = rectilinear(1, 4, 0, 0);
-    let v = 0x404A_0000_0000_0000;
-    let d = 0x4039_0000_0000_0000;
-    let cubic_v = 0x404D_0000_0000_0000;
-    let cubic_d = 0x4042_8000_0000_0000;
-    let s = cubes_on(rt, s, g, v, d, b"regular, at 1.5", b"regular, at 4")?;
-    let s = cubes_on(
+    let v = 52.0;
+    let d = 25.0;
+    let cubic_v = 58.0;
+    let cubic_d = 37.0;
+    cubes_on(rt, s, g, v, d, "regular, at 1.5", "regular, at 4")?;
+    cubes_on(
         rt,
         s,
         cubic(g),
         cubic_v,
         cubic_d,
-        b"regular, at 1.5, cubic",
-        b"regular, at 4, cubic",
+        "regular, at 1.5, cubic",
+        "regular, at 4, cubic",
     )?;
-    let s = cubes_on(rt, s, h, v, d, b"rectilinear, at 1.5", b"rectilinear, at 4")?;
+    cubes_on(rt, s, h, v, d, "rectilinear, at 1.5", "rectilinear, at 4")?;
     cubes_on(
         rt,
         s,
         cubic(h),
         cubic_v,
         cubic_d,
-        b"rectilinear, at 1.5, cubic",
-        b"rectilinear, at 4, cubic",
+        "rectilinear, at 1.5, cubic",
+        "rectilinear, at 4, cubic",
     )
 }
 
 // Values that are NaN, at a query that is a number.
-fn not_numbers(rt: &impl Print, s: Score) -> io::Result<Score> {
-    let vals = [0.0 / 0.0; 4];
+fn not_numbers(rt: &impl Print, s: &mut Score) -> io::Result<()> {
+    let vals = [f64::NAN; 4];
     let entries = [0.0, 1.0, 2.0, 3.0];
-    let nan = 0x7FF8_0000_0000_0000;
-    let s = answered(
+    let nan = f64::NAN;
+    answered(
         rt,
         s,
         regular(1, 4, 0, 0, 1.0, 1.0),
         &entries,
         &vals,
         1.5,
-        0,
+        placed(0, Saturation::None),
         nan,
         nan,
-        b"regular, all values NaN",
+        "regular, all values NaN",
     )?;
     answered(
         rt,
@@ -98,88 +109,73 @@ fn not_numbers(rt: &impl Print, s: Score) -> io::Result<Score> {
         &entries,
         &vals,
         1.5,
-        0,
+        placed(0, Saturation::None),
         nan,
         nan,
-        b"rectilinear, all values NaN",
+        "rectilinear, all values NaN",
     )
 }
 
 // Refusal 7: too many or too few queries, and a buffer that the axis count does not divide.
-fn regular_batches(rt: &impl Print, s: Score, z: &[f64]) -> io::Result<Score> {
+fn regular_batches(rt: &impl Print, s: &mut Score, z: &[f64]) -> io::Result<()> {
     let g = with_buffers(regular(1, 4, 0, 0, 1.0, 1.0), 2, 2);
     let wide = with_buffers(regular(2, 4, 4, 0, 1.0, 1.0), 3, 3);
-    let vals = part(z, 0, 4);
-    let s = refused_batch(
-        rt,
-        s,
-        g,
-        z,
-        vals,
-        part(z, 0, 3),
-        b"regular, 7: 3 queries for 2",
-    )?;
-    let s = refused_batch(
-        rt,
-        s,
-        g,
-        z,
-        vals,
-        part(z, 0, 1),
-        b"regular, 7: 1 query for 2",
-    )?;
+    let vals = part(z, 4);
+    refused_batch(rt, s, g, z, vals, part(z, 3), "regular, 7: 3 queries for 2")?;
+    refused_batch(rt, s, g, z, vals, part(z, 1), "regular, 7: 1 query for 2")?;
     refused_batch(
         rt,
         s,
         wide,
         z,
-        part(z, 0, 16),
+        part(z, 16),
         vals,
-        b"regular, 7: 3 entries on 2 axes",
+        "regular, 7: 3 entries on 2 axes",
     )
 }
 
-fn rectilinear_batches(rt: &impl Print, s: Score, z: &[f64]) -> io::Result<Score> {
+fn rectilinear_batches(rt: &impl Print, s: &mut Score, z: &[f64]) -> io::Result<()> {
     let g = with_buffers(rectilinear(1, 4, 0, 0), 2, 2);
     let wide = with_buffers(rectilinear(2, 4, 4, 0), 3, 3);
     let entries = [0.0, 1.0, 2.0, 3.0, 0.0, 1.0, 2.0, 3.0];
-    let four = part(&entries, 0, 4);
-    let vals = part(z, 0, 4);
-    let s = refused_batch(
+    let four = part(&entries, 4);
+    let vals = part(z, 4);
+    refused_batch(
         rt,
         s,
         g,
         four,
         vals,
-        part(z, 0, 3),
-        b"rectilinear, 7: 3 queries for 2",
+        part(z, 3),
+        "rectilinear, 7: 3 queries for 2",
     )?;
-    let s = refused_batch(
+    refused_batch(
         rt,
         s,
         g,
         four,
         vals,
-        part(z, 0, 1),
-        b"rectilinear, 7: 1 query for 2",
+        part(z, 1),
+        "rectilinear, 7: 1 query for 2",
     )?;
     refused_batch(
         rt,
         s,
         wide,
         &entries,
-        part(z, 0, 16),
+        part(z, 16),
         vals,
-        b"rectilinear, 7: 3 entries on 2 axes",
+        "rectilinear, 7: 3 entries on 2 axes",
     )
 }
 
 // Refusal 8 of a single query, on the lower of two such axes.
-fn unplaceable(rt: &impl Print, s: Score, z: &[f64]) -> io::Result<Score> {
+fn unplaceable(rt: &impl Print, s: &mut Score, z: &[f64]) -> io::Result<()> {
     let g = regular(3, 4, 4, 4, 1.0, 1.0);
-    let x = [1.5, 9223372036854775808.0, 1.0 / 0.0, 1.5];
-    let t = same_single(clear(), g, z, part(z, 0, 64), x, refusal(8, 1));
-    told(rt, s, t, b"regular, 8: axis 1 of a single query")
+    let x = [1.5, 9223372036854775808.0, f64::INFINITY, 1.5];
+    let e = refusal(Check::NoPlace, 1);
+    let case = same_single(&mut Tally::default(), g, z, part(z, 64), x, e);
+    told(rt, s, case, "regular, 8: axis 1 of a single query")
 }
 
 // The greatest number below 2^63.
@@ -188,65 +184,77 @@ fn below_63() -> f64 {
 }
 
 // The bounds of refusal 8: 2^63 is refused; the number below it is the last that is placed, and -2^63 is still placed.
-fn bounds(rt: &impl Print, s: Score) -> io::Result<Score> {
+fn bounds(rt: &impl Print, s: &mut Score) -> io::Result<()> {
     let g = regular(1, 4, 0, 0, 1.0, 1.0);
     let x = [0.0, 1.0, 2.0, 3.0];
     let zero = [0.0; 4];
     let far = 9223372036854775808.0;
-    let low = 0xC3E0_0000_0000_0000;
-    let one = 0x3FF0_0000_0000_0000;
-    let s = not_placed(rt, s, g, &x, &x, far, 8, b"regular, 8: 2^63")?;
-    let s = answered(
+    let low = -9223372036854775808.0;
+    let one = 1.0;
+    not_placed(rt, s, g, &x, &x, far, Check::NoPlace, "regular, 8: 2^63")?;
+    answered(
         rt,
         s,
         g,
         &x,
         &zero,
         below_63(),
-        4,
-        0,
-        0,
-        b"regular, below 2^63",
+        placed(0, Saturation::OutsideHigh),
+        0.0,
+        0.0,
+        "regular, below 2^63",
     )?;
-    answered(rt, s, g, &x, &x, -far, 2, low, one, b"regular, -2^63")
+    answered(
+        rt,
+        s,
+        g,
+        &x,
+        &x,
+        -far,
+        placed(0, Saturation::OutsideLow),
+        low,
+        one,
+        "regular, -2^63",
+    )
 }
 
 // Refusal 8 in the middle of a batch: the earlier query's entries hold its answers, all others their contents.
-fn stopped(rt: &impl Print, s: Score, z: &[f64]) -> io::Result<Score> {
+fn stopped(rt: &impl Print, s: &mut Score, z: &[f64]) -> io::Result<()> {
     let vals = [
         0.0, 0.0, 0.0, 0.0, 1.0, 1.0, 1.0, 1.0, 8.0, 8.0, 8.0, 8.0, 27.0, 27.0, 27.0, 27.0,
     ];
     let far = 9223372036854775808.0;
     let queries = [1.5, 1.5, far, 1.5, far, 1.5];
     let g = with_buffers(regular(2, 4, 4, 0, 1.0, 1.0), 3, 6);
-    let mut values = marked_words();
-    values[0] = 0x400B_0000_0000_0000;
-    let mut slopes = marked_words();
-    slopes[0] = 0x4019_0000_0000_0000;
-    slopes[3] = 0;
-    let w = walk(clear(), 8, 1, 1);
-    let t = run_batches(g, z, &vals, &queries, w, &values, &slopes);
-    told(rt, s, t, b"regular, 8: query 1 of a batch, axis 1")
+    let mut values = marked();
+    values[0] = 3.375;
+    let mut slopes = marked();
+    slopes[0] = 6.25;
+    slopes[3] = 0.0;
+    let outcome = Err(Check::NoPlace.at(1, 1));
+    let mut t = Tally::default();
+    let case = run_batches(&mut t, g, z, &vals, &queries, outcome, &values, &slopes);
+    told(rt, s, case, "regular, 8: query 1 of a batch, axis 1")
 }
 
 // A query with the edge held, on nodes 0, 1, 2 .. of both kinds. Its places on the two may differ.
 fn held_at(
     rt: &impl Print,
-    s: Score,
+    s: &mut Score,
     vals: &[f64],
     x: f64,
-    places: [u64; 2],
-    value: u64,
-    slope: u64,
-    on_regular: &[u8],
-    on_rectilinear: &[u8],
-) -> io::Result<Score> {
+    places: [Place; 2],
+    value: f64,
+    slope: f64,
+    on_regular: &str,
+    on_rectilinear: &str,
+) -> io::Result<()> {
     let count = vals.len();
     let nodes = [0.0, 1.0, 2.0, 3.0, 4.0, 5.0];
-    let entries = part(&nodes, 0, count);
+    let entries = part(&nodes, count);
     let g = held(regular(1, count, 0, 0, 1.0, 1.0));
     let h = held(rectilinear(1, count, 0, 0));
-    let s = answered(
+    answered(
         rt, s, g, entries, vals, x, places[0], value, slope, on_regular,
     )?;
     answered(
@@ -265,226 +273,283 @@ fn held_at(
 
 // Past an end: the end's value, and no slope. The last node is OutsideHigh on a regular axis and InsideHigh on a rectilinear one, the first
 // InsideLow and OutsideLow.
-fn held_past(rt: &impl Print, s: Score) -> io::Result<Score> {
+fn held_past(rt: &impl Print, s: &mut Score) -> io::Result<()> {
     let v = [0.0, 1.0, 8.0, 27.0];
-    let far = 1.0 / 0.0;
-    let last = 0x403B_0000_0000_0000;
-    let s = held_at(
+    let far = f64::INFINITY;
+    let last = 27.0;
+    held_at(
         rt,
         s,
         &v,
         4.0,
-        [4, 3],
+        [
+            placed(0, Saturation::OutsideHigh),
+            placed(0, Saturation::InsideHigh),
+        ],
         last,
-        0,
-        b"regular, held: at 4",
-        b"rectilinear, held: at 4",
+        0.0,
+        "regular, held: at 4",
+        "rectilinear, held: at 4",
     )?;
-    let s = held_at(
+    held_at(
         rt,
         s,
         &v,
         far,
-        [4, 3],
+        [
+            placed(0, Saturation::OutsideHigh),
+            placed(0, Saturation::InsideHigh),
+        ],
         last,
-        0,
-        b"regular, held: at +inf",
-        b"rectilinear, held: at +inf",
+        0.0,
+        "regular, held: at +inf",
+        "rectilinear, held: at +inf",
     )?;
-    let s = held_at(
+    held_at(
         rt,
         s,
         &v,
         -1.0,
-        [1, 2],
-        0,
-        0,
-        b"regular, held: at -1",
-        b"rectilinear, held: at -1",
+        [
+            placed(0, Saturation::InsideLow),
+            placed(0, Saturation::OutsideLow),
+        ],
+        0.0,
+        0.0,
+        "regular, held: at -1",
+        "rectilinear, held: at -1",
     )?;
     held_at(
         rt,
         s,
         &v,
         -far,
-        [1, 2],
-        0,
-        0,
-        b"regular, held: at -inf",
-        b"rectilinear, held: at -inf",
+        [
+            placed(0, Saturation::InsideLow),
+            placed(0, Saturation::OutsideLow),
+        ],
+        0.0,
+        0.0,
+        "regular, held: at -inf",
+        "rectilinear, held: at -inf",
     )
 }
 
 // At an end the slope is the cubic's, 25 and -2, and -0 is at the node 0, not below it. Between the nodes all is as in the cubic.
-fn held_within(rt: &impl Print, s: Score) -> io::Result<Score> {
+fn held_within(rt: &impl Print, s: &mut Score) -> io::Result<()> {
     let v = [0.0, 1.0, 8.0, 27.0];
-    let last = 0x403B_0000_0000_0000;
-    let up = 0x4039_0000_0000_0000;
-    let down = 0xC000_0000_0000_0000;
-    let s = held_at(
+    let last = 27.0;
+    let up = 25.0;
+    let down = -2.0;
+    held_at(
         rt,
         s,
         &v,
         3.0,
-        [4, 3],
+        [
+            placed(0, Saturation::OutsideHigh),
+            placed(0, Saturation::InsideHigh),
+        ],
         last,
         up,
-        b"regular, held: at 3",
-        b"rectilinear, held: at 3",
+        "regular, held: at 3",
+        "rectilinear, held: at 3",
     )?;
-    let s = held_at(
+    held_at(
         rt,
         s,
         &v,
         0.0,
-        [1, 2],
-        0,
+        [
+            placed(0, Saturation::InsideLow),
+            placed(0, Saturation::OutsideLow),
+        ],
+        0.0,
         down,
-        b"regular, held: at 0",
-        b"rectilinear, held: at 0",
+        "regular, held: at 0",
+        "rectilinear, held: at 0",
     )?;
-    let s = held_at(
+    held_at(
         rt,
         s,
         &v,
         -0.0,
-        [1, 2],
-        0,
+        [
+            placed(0, Saturation::InsideLow),
+            placed(0, Saturation::OutsideLow),
+        ],
+        0.0,
         down,
-        b"regular, held: at -0",
-        b"rectilinear, held: at -0",
+        "regular, held: at -0",
+        "rectilinear, held: at -0",
     )?;
     held_at(
         rt,
         s,
         &v,
         1.5,
-        [0, 0],
-        0x400B_0000_0000_0000,
-        0x4019_0000_0000_0000,
-        b"regular, held: at 1.5",
-        b"rectilinear, held: at 1.5",
+        [placed(0, Saturation::None), placed(0, Saturation::None)],
+        3.375,
+        6.25,
+        "regular, held: at 1.5",
+        "rectilinear, held: at 1.5",
     )
 }
 
 // The ends of a longer axis, 125 and 0: the last block starts at node 2.
-fn held_longer(rt: &impl Print, s: Score) -> io::Result<Score> {
+fn held_longer(rt: &impl Print, s: &mut Score) -> io::Result<()> {
     let v = [0.0, 1.0, 8.0, 27.0, 64.0, 125.0];
-    let s = held_at(
+    held_at(
         rt,
         s,
         &v,
         9.0,
-        [20, 19],
-        0x405F_4000_0000_0000,
-        0,
-        b"regular, held: 6 nodes, at 9",
-        b"rectilinear, held: 6 nodes, at 9",
+        [
+            placed(2, Saturation::OutsideHigh),
+            placed(2, Saturation::InsideHigh),
+        ],
+        125.0,
+        0.0,
+        "regular, held: 6 nodes, at 9",
+        "rectilinear, held: 6 nodes, at 9",
     )?;
     held_at(
         rt,
         s,
         &v,
         -5.0,
-        [1, 2],
-        0,
-        0,
-        b"regular, held: 6 nodes, at -5",
-        b"rectilinear, held: 6 nodes, at -5",
+        [
+            placed(0, Saturation::InsideLow),
+            placed(0, Saturation::OutsideLow),
+        ],
+        0.0,
+        0.0,
+        "regular, held: 6 nodes, at -5",
+        "rectilinear, held: 6 nodes, at -5",
     )
 }
 
 // What only the sign of a zero shows. The four +0 of a slope are multiplied, so values below 0 give -0. The weights are the cubic's: a stored -0
 // comes out as +0, and with the straight line's it would stay.
-fn held_zeros(rt: &impl Print, s: Score) -> io::Result<Score> {
+fn held_zeros(rt: &impl Print, s: &mut Score) -> io::Result<()> {
     let below = [-1.0, -2.0, -3.0, -4.0];
     let high = [-1.0, -1.0, 8.0, -0.0];
     let low = [-0.0, 8.0, -1.0, -1.0];
-    let s = held_at(
+    held_at(
         rt,
         s,
         &below,
         9.0,
-        [4, 3],
-        0xC010_0000_0000_0000,
-        bits_of(-0.0),
-        b"regular, held: values below 0",
-        b"rectilinear, held: values below 0",
+        [
+            placed(0, Saturation::OutsideHigh),
+            placed(0, Saturation::InsideHigh),
+        ],
+        -4.0,
+        -0.0,
+        "regular, held: values below 0",
+        "rectilinear, held: values below 0",
     )?;
-    let s = held_at(
+    held_at(
         rt,
         s,
         &high,
         9.0,
-        [4, 3],
-        0,
-        0,
-        b"regular, held: last value -0",
-        b"rectilinear, held: last value -0",
+        [
+            placed(0, Saturation::OutsideHigh),
+            placed(0, Saturation::InsideHigh),
+        ],
+        0.0,
+        0.0,
+        "regular, held: last value -0",
+        "rectilinear, held: last value -0",
     )?;
     held_at(
         rt,
         s,
         &low,
         -5.0,
-        [1, 2],
-        0,
-        0,
-        b"regular, held: first value -0",
-        b"rectilinear, held: first value -0",
+        [
+            placed(0, Saturation::InsideLow),
+            placed(0, Saturation::OutsideLow),
+        ],
+        0.0,
+        0.0,
+        "regular, held: first value -0",
+        "rectilinear, held: first value -0",
     )
 }
 
 // 2^63 is past an end, and no longer refused.
-fn held_far(rt: &impl Print, s: Score) -> io::Result<Score> {
+fn held_far(rt: &impl Print, s: &mut Score) -> io::Result<()> {
     let x = [0.0, 1.0, 2.0, 3.0];
     let v = [0.0, 1.0, 8.0, 27.0];
     let far = 9223372036854775808.0;
     let g = regular(1, 4, 0, 0, 1.0, 1.0);
-    let s = not_placed(rt, s, cubic(g), &x, &v, far, 8, b"regular, 8: 2^63, cubic")?;
+    not_placed(
+        rt,
+        s,
+        cubic(g),
+        &x,
+        &v,
+        far,
+        Check::NoPlace,
+        "regular, 8: 2^63, cubic",
+    )?;
     held_at(
         rt,
         s,
         &v,
         far,
-        [4, 3],
-        0x403B_0000_0000_0000,
-        0,
-        b"regular, held: at 2^63",
-        b"rectilinear, held: at 2^63",
+        [
+            placed(0, Saturation::OutsideHigh),
+            placed(0, Saturation::InsideHigh),
+        ],
+        27.0,
+        0.0,
+        "regular, held: at 2^63",
+        "rectilinear, held: at 2^63",
     )
 }
 
 // From +inf on every node is +inf, and no quotient is a number. By steps of +inf node 0 is NaN and the last +inf, so no query is past an end: 1
 // is placed by its quotient 0, and its t is NaN.
-fn held_infinite(rt: &impl Print, s: Score) -> io::Result<Score> {
+fn held_infinite(rt: &impl Print, s: &mut Score) -> io::Result<()> {
     let v = [0.0, 1.0, 8.0, 27.0];
-    let far = 1.0 / 0.0;
-    let nan = 0x7FF8_0000_0000_0000;
+    let far = f64::INFINITY;
+    let nan = f64::NAN;
     let g = held(regular_from(far, 1.0));
     let h = held(regular_from(0.0, far));
-    let s = not_placed(rt, s, g, &v, &v, 0.0, 8, b"regular, held: start +inf, at 0")?;
-    let s = not_placed(
+    not_placed(
+        rt,
+        s,
+        g,
+        &v,
+        &v,
+        0.0,
+        Check::NoPlace,
+        "regular, held: start +inf, at 0",
+    )?;
+    not_placed(
         rt,
         s,
         g,
         &v,
         &v,
         far,
-        8,
-        b"regular, held: start +inf, at +inf",
+        Check::NoPlace,
+        "regular, held: start +inf, at +inf",
     )?;
-    let s = answered(
+    answered(
         rt,
         s,
         h,
         &v,
         &v,
         1.0,
-        1,
+        placed(0, Saturation::InsideLow),
         nan,
         nan,
-        b"regular, held: step +inf, at 1",
+        "regular, held: step +inf, at 1",
     )?;
     not_placed(
         rt,
@@ -493,8 +558,8 @@ fn held_infinite(rt: &impl Print, s: Score) -> io::Result<Score> {
         &v,
         &v,
         far,
-        8,
-        b"regular, held: step +inf, at +inf",
+        Check::NoPlace,
+        "regular, held: step +inf, at +inf",
     )
 }
 
@@ -502,54 +567,78 @@ fn held_infinite(rt: &impl Print, s: Score) -> io::Result<Score> {
 // the answers: of the cubes 3.375 and the slope 6.25 at 1.5, or 27 at the end; of 1 to 4 2.5 and the slope 1 at 1.5, or 4 at the end.
 fn held_axes_on(
     rt: &impl Print,
-    s: Score,
+    s: &mut Score,
     g: Group,
     axes: &[f64],
-    end: u64,
-    name: &[u8],
-) -> io::Result<Score> {
+    end: Place,
+    name: &str,
+) -> io::Result<()> {
     let vals = [
         0.0, 0.0, 0.0, 0.0, 1.0, 2.0, 3.0, 4.0, 8.0, 16.0, 24.0, 32.0, 27.0, 54.0, 81.0, 108.0,
     ];
-    let mut values = marked_words();
-    values[0] = 0x402B_0000_0000_0000;
-    values[1] = 0x4020_E000_0000_0000;
-    values[2] = 0x4050_E000_0000_0000;
-    let mut slopes = marked_words();
-    slopes[0] = 0x4039_0000_0000_0000;
-    slopes[1] = 0x402F_4000_0000_0000;
-    slopes[2] = 0;
-    slopes[3] = 0;
-    slopes[4] = 0x400B_0000_0000_0000;
-    slopes[5] = 0x403B_0000_0000_0000;
-    let e = answer_of([0, end], values[0], [slopes[0], slopes[3]]);
-    let t = same_single(clear(), g, axes, &vals, [1.5, 9.0, 0.0, 0.0], e);
-    let e = answer_of([0, 0], values[1], [slopes[1], slopes[4]]);
-    let t = same_single(t, g, axes, &vals, [1.5, 1.5, 0.0, 0.0], e);
-    let e = answer_of([end, 0], values[2], [slopes[2], slopes[5]]);
-    let t = same_single(t, g, axes, &vals, [9.0, 1.5, 0.0, 0.0], e);
+    let mut values = marked();
+    values[0] = 13.5;
+    values[1] = 8.4375;
+    values[2] = 67.5;
+    let mut slopes = marked();
+    slopes[0] = 25.0;
+    slopes[1] = 15.625;
+    slopes[2] = 0.0;
+    slopes[3] = 0.0;
+    slopes[4] = 3.375;
+    slopes[5] = 27.0;
+    let none = placed(0, Saturation::None);
+    let mut t = Tally::default();
+    let e = answer_of([none, end], values[0], [slopes[0], slopes[3]]);
+    let past_1 = same_single(&mut t, g, axes, &vals, [1.5, 9.0, 0.0, 0.0], e);
+    let e = answer_of([none, none], values[1], [slopes[1], slopes[4]]);
+    let inside = same_single(&mut t, g, axes, &vals, [1.5, 1.5, 0.0, 0.0], e);
+    let e = answer_of([end, none], values[2], [slopes[2], slopes[5]]);
+    let past_0 = same_single(&mut t, g, axes, &vals, [9.0, 1.5, 0.0, 0.0], e);
     let three = with_buffers(g, 3, 6);
     let queries = [1.5, 1.5, 9.0, 9.0, 1.5, 1.5];
-    let w = walk(t, 0, 0, 0);
-    let t = run_batches(three, axes, &vals, &queries, w, &values, &slopes);
-    told(rt, s, t, name)
+    let batches = run_batches(
+        &mut t,
+        three,
+        axes,
+        &vals,
+        &queries,
+        Ok(()),
+        &values,
+        &slopes,
+    );
+    told(rt, s, past_1.and(inside).and(past_0).and(batches), name)
 }
 
-fn held_axes(rt: &impl Print, s: Score) -> io::Result<Score> {
+fn held_axes(rt: &impl Print, s: &mut Score) -> io::Result<()> {
     let axes = [0.0, 1.0, 2.0, 3.0, 0.0, 1.0, 2.0, 3.0];
     let g = held(regular(2, 4, 4, 0, 1.0, 1.0));
     let h = held(rectilinear(2, 4, 4, 0));
-    let s = held_axes_on(rt, s, g, &axes, 4, b"regular, held: past one of 2 axes")?;
-    held_axes_on(rt, s, h, &axes, 3, b"rectilinear, held: past one of 2 axes")
+    held_axes_on(
+        rt,
+        s,
+        g,
+        &axes,
+        placed(0, Saturation::OutsideHigh),
+        "regular, held: past one of 2 axes",
+    )?;
+    held_axes_on(
+        rt,
+        s,
+        h,
+        &axes,
+        placed(0, Saturation::InsideHigh),
+        "rectilinear, held: past one of 2 axes",
+    )
 }
 
-fn held_edge(rt: &impl Print, s: Score) -> io::Result<Score> {
-    let s = held_past(rt, s)?;
-    let s = held_within(rt, s)?;
-    let s = held_longer(rt, s)?;
-    let s = held_zeros(rt, s)?;
-    let s = held_far(rt, s)?;
-    let s = held_infinite(rt, s)?;
+fn held_edge(rt: &impl Print, s: &mut Score) -> io::Result<()> {
+    held_past(rt, s)?;
+    held_within(rt, s)?;
+    held_longer(rt, s)?;
+    held_zeros(rt, s)?;
+    held_far(rt, s)?;
+    held_infinite(rt, s)?;
     held_axes(rt, s)
 }
 
@@ -557,56 +646,54 @@ fn held_edge(rt: &impl Print, s: Score) -> io::Result<Score> {
 // by hand, which have no mark.
 fn kept_on(
     rt: &impl Print,
-    s: Score,
+    s: &mut Score,
     g: Group,
     short: Group,
     wide: Group,
-    at_1_5: &[u8],
-    held_at_9: &[u8],
-    count: &[u8],
-    axes: &[u8],
-) -> io::Result<Score> {
+    at_1_5: &str,
+    held_at_9: &str,
+    count: &str,
+    axes: &str,
+) -> io::Result<()> {
     let x = [0.0, 1.0, 2.0, 3.0];
     let v = [0.0, 1.0, 8.0, 27.0];
-    let s = kept(rt, s, g, &x, &v, 1.5, 0, 0x400B_0000_0000_0000, 0, at_1_5)?;
-    let s = kept(
-        rt,
-        s,
-        held(g),
-        &x,
-        &v,
-        9.0,
-        0,
-        0x403B_0000_0000_0000,
-        2,
-        held_at_9,
-    )?;
-    let s = kept(
+    kept(rt, s, g, &x, &v, 1.5, Ok(3.375), NEITHER, at_1_5)?;
+    kept(rt, s, held(g), &x, &v, 9.0, Ok(27.0), ABOVE, held_at_9)?;
+    kept(
         rt,
         s,
         short,
-        part(&x, 0, 3),
-        part(&v, 0, 3),
+        part(&x, 3),
+        part(&v, 3),
         9.0,
-        4,
-        0,
-        0,
+        Err(Check::TooFew.at(0, 0)),
+        NEITHER,
         count,
     )?;
-    kept(rt, s, wide, &x, &v, 9.0, 1, 0, 0, axes)
+    kept(
+        rt,
+        s,
+        wide,
+        &x,
+        &v,
+        9.0,
+        Err(Check::AxisCount.at(0, 0)),
+        NEITHER,
+        axes,
+    )
 }
 
-fn kept_grids(rt: &impl Print, s: Score) -> io::Result<Score> {
-    let s = kept_on(
+fn kept_grids(rt: &impl Print, s: &mut Score) -> io::Result<()> {
+    kept_on(
         rt,
         s,
         regular(1, 4, 0, 0, 1.0, 1.0),
         regular(1, 3, 0, 0, 1.0, 1.0),
         regular(5, 4, 0, 0, 1.0, 1.0),
-        b"regular, kept: at 1.5",
-        b"regular, kept: held at 9",
-        b"regular, kept: 3 entries",
-        b"regular, kept: 5 axes",
+        "regular, kept: at 1.5",
+        "regular, kept: held at 9",
+        "regular, kept: 3 entries",
+        "regular, kept: 5 axes",
     )?;
     kept_on(
         rt,
@@ -614,34 +701,31 @@ fn kept_grids(rt: &impl Print, s: Score) -> io::Result<Score> {
         rectilinear(1, 4, 0, 0),
         rectilinear(1, 3, 0, 0),
         rectilinear(5, 4, 0, 0),
-        b"rectilinear, kept: at 1.5",
-        b"rectilinear, kept: held at 9",
-        b"rectilinear, kept: 3 entries",
-        b"rectilinear, kept: 5 axes",
+        "rectilinear, kept: at 1.5",
+        "rectilinear, kept: held at 9",
+        "rectilinear, kept: 3 entries",
+        "rectilinear, kept: 5 axes",
     )
 }
 
-fn all(rt: &impl Print, s: Score, z: &[f64]) -> io::Result<Score> {
-    let s = cubes(rt, s)?;
-    let s = not_numbers(rt, s)?;
-    let s = refusals(rt, s)?;
-    let s = regular_batches(rt, s, z)?;
-    let s = rectilinear_batches(rt, s, z)?;
-    let s = unplaceable(rt, s, z)?;
-    let s = bounds(rt, s)?;
-    let s = stopped(rt, s, z)?;
-    let s = held_edge(rt, s)?;
-    let s = kept_grids(rt, s)?;
-    let s = marked_cases(rt, s)?;
+fn all(rt: &impl Print, s: &mut Score, z: &[f64]) -> io::Result<()> {
+    cubes(rt, s)?;
+    not_numbers(rt, s)?;
+    refusals(rt, s)?;
+    regular_batches(rt, s, z)?;
+    rectilinear_batches(rt, s, z)?;
+    unplaceable(rt, s, z)?;
+    bounds(rt, s)?;
+    stopped(rt, s, z)?;
+    held_edge(rt, s)?;
+    kept_grids(rt, s)?;
+    marked_cases(rt, s)?;
     missing_cases(rt, s)
 }
 
 fn main(rt: HostRuntime) -> io::Result<()> {
     let zeros = zeros();
-    let s = all(&rt, Score { agree: 0, all: 0 }, &zeros)?;
-    say(&rt, b"cases: ")?;
-    say_number(&rt, s.agree)?;
-    say(&rt, b" of ")?;
-    say_number(&rt, s.all)?;
-    say(&rt, b" agree\n")
+    let mut score = Score::default();
+    all(&rt, &mut score, &zeros)?;
+    told_all(&rt, score)
 }

@@ -4,20 +4,19 @@
 
 ghost use Rattle.std.specs.Prelude.{◌≡◌, length};
 
-use cases_calls::{Score, answer_of, same_marks, told, walk};
-use harness_batches_f32::{marked_words, run_batches};
-use harness_calls::{INTERP_ONE, NEW, same_outcome};
+use cases_calls::{NEITHER, Score, placed, same_marks, told};
+use harness_batches_f32::{marked, run_batches};
+use harness_calls::same_outcome;
 use harness_calls_f32::{call_new, same_value};
-use harness_corpus::refusal;
-use harness_corpus_f32::{GroupF32, part};
+use harness_corpus::{Expected, ExpectedPlace};
+use harness_corpus_f32::{Axes, Group, part, refusal};
 use harness_with_grad_f32::same_single;
-use harness_words::{Tally, clear};
-use multicubic::EdgeMode;
-use multicubic_f32::{AxisF32, MarkedAnswerF32};
+use harness_words::{Call, Difference, Tally};
+use multicubic::{Answer, Axis, Check, EdgeMode, Marked, Marks, Outcome, Place, Saturation};
 use std::io;
 
-fn axis(step: f32, count: usize) -> AxisF32 {
-    AxisF32 {
+fn axis(step: f32, count: usize) -> Axis<f32> {
+    Axis {
         start: 0.0,
         step,
         count,
@@ -25,234 +24,240 @@ fn axis(step: f32, count: usize) -> AxisF32 {
 }
 
 // A grid, with buffers for two queries on two axes.
-fn grid(
-    mode: EdgeMode,
-    rectilinear: bool,
-    n: usize,
-    counts: [usize; 4],
-    axes: [AxisF32; 4],
-) -> GroupF32 {
-    GroupF32 {
-        state: 0,
-        rectilinear,
-        mode,
+fn grid(n: usize, axes: Axes) -> Group {
+    Group {
         n,
-        counts,
+        mode: EdgeMode::Straight,
         axes,
-        joined_at: 0,
-        joined: 0,
-        vals_at: 0,
-        vals: 0,
-        number: 0,
-        axis: 0,
         count: 2,
-        queries_at: 0,
         entries: 4,
-        answers_at: 0,
     }
 }
 
 // A regular grid from 0 on; the third axis has the step 1.
-pub fn regular(n: usize, c0: usize, c1: usize, c2: usize, s0: f32, s1: f32) -> GroupF32 {
+pub fn regular(n: usize, c0: usize, c1: usize, c2: usize, s0: f32, s1: f32) -> Group {
     let axes = [axis(s0, c0), axis(s1, c1), axis(1.0, c2), axis(1.0, 4)];
-    grid(EdgeMode::Straight, false, n, [0; 4], axes)
+    grid(n, Axes::Regular(axes))
 }
 
-pub fn rectilinear(n: usize, c0: usize, c1: usize, c2: usize) -> GroupF32 {
-    let none = axis(0.0, 0);
-    grid(EdgeMode::Straight, true, n, [c0, c1, c2, 4], [none; 4])
+pub fn rectilinear(n: usize, c0: usize, c1: usize, c2: usize) -> Group {
+    grid(n, Axes::Rectilinear([c0, c1, c2, 4]))
 }
 
 // One regular axis of four entries.
-pub fn regular_from(start: f32, step: f32) -> GroupF32 {
-    let first = AxisF32 {
+pub fn regular_from(start: f32, step: f32) -> Group {
+    let first = Axis {
         start,
         step,
         count: 4,
     };
-    grid(EdgeMode::Straight, false, 1, [0; 4], [first; 4])
+    grid(1, Axes::Regular([first; 4]))
 }
 
 // The same grid in another mode.
-fn in_mode(g: GroupF32, mode: EdgeMode) -> GroupF32 {
-    let counts = g.counts;
-    let axes = g.axes;
-    grid(mode, g.rectilinear, g.n, counts, axes)
+pub fn cubic(g: Group) -> Group {
+    Group {
+        mode: EdgeMode::Cubic,
+        ..g
+    }
 }
 
-pub fn cubic(g: GroupF32) -> GroupF32 {
-    in_mode(g, EdgeMode::Cubic)
-}
-
-pub fn held(g: GroupF32) -> GroupF32 {
-    in_mode(g, EdgeMode::Held)
+pub fn held(g: Group) -> Group {
+    Group {
+        mode: EdgeMode::Held,
+        ..g
+    }
 }
 
 // The same grid with buffers of other lengths.
-pub fn with_buffers(g: GroupF32, count: usize, entries: usize) -> GroupF32 {
-    let mut r = g;
-    r.count = count;
-    r.entries = entries;
-    r
+pub fn with_buffers(g: Group, count: usize, entries: usize) -> Group {
+    Group {
+        count,
+        entries,
+        ..g
+    }
 }
 
 // What `new` gives of the grid, compared.
-fn made(g: GroupF32, axes: &[f32], vals: &[f32], number: u64, axis: u64) -> Tally {
-    same_outcome(clear(), NEW, number, 0, axis, call_new(g, axes, vals))
+fn made(
+    t: &mut Tally,
+    g: Group,
+    axes: &[f32],
+    vals: &[f32],
+    outcome: Outcome,
+) -> Result<(), Difference> {
+    same_outcome(t, Call::New, outcome, call_new(g, axes, vals))
 }
 
 // Every one of the seven calls gives the refusal, whatever is asked, and the buffers keep their contents.
 pub fn refused_asked(
     rt: &impl Print,
-    s: Score,
-    g: GroupF32,
+    s: &mut Score,
+    g: Group,
     axes: &[f32],
     vals: &[f32],
     x: [f32; 4],
     queries: &[f32],
-    number: u64,
-    axis: u64,
-    name: &[u8],
-) -> io::Result<Score> {
-    let before = marked_words();
-    let t = made(g, axes, vals, number, axis);
-    let t = same_single(t, g, axes, vals, x, refusal(number, axis));
-    let w = walk(t, number, 0, axis);
-    let t = run_batches(g, axes, vals, queries, w, &before, &before);
-    told(rt, s, t, name)
+    check: Check,
+    axis: usize,
+    name: &str,
+) -> io::Result<()> {
+    let outcome = Err(check.at(0, axis));
+    let before = marked();
+    let mut t = Tally::default();
+    let case = made(&mut t, g, axes, vals, outcome)
+        .and(same_single(&mut t, g, axes, vals, x, refusal(check, axis)))
+        .and(run_batches(&mut t, g, axes, vals, queries, outcome, &before, &before));
+    told(rt, s, case, name)
 }
 
 // The same, asked at 0.5.
 fn refused(
     rt: &impl Print,
-    s: Score,
-    g: GroupF32,
+    s: &mut Score,
+    g: Group,
     axes: &[f32],
     vals: &[f32],
-    number: u64,
-    axis: u64,
-    name: &[u8],
-) -> io::Result<Score> {
-    refused_asked(
-        rt, s, g, axes, vals, [0.5; 4], &[0.5; 4], number, axis, name,
-    )
+    check: Check,
+    axis: usize,
+    name: &str,
+) -> io::Result<()> {
+    refused_asked(rt, s, g, axes, vals, [0.5; 4], &[0.5; 4], check, axis, name)
 }
 
 // Both batches are refused by check 7, and the buffers keep their contents.
 pub fn refused_batch(
     rt: &impl Print,
-    s: Score,
-    g: GroupF32,
+    s: &mut Score,
+    g: Group,
     axes: &[f32],
     vals: &[f32],
     queries: &[f32],
-    name: &[u8],
-) -> io::Result<Score> {
-    let before = marked_words();
-    let w = walk(made(g, axes, vals, 0, 0), 7, 0, 0);
-    let t = run_batches(g, axes, vals, queries, w, &before, &before);
-    told(rt, s, t, name)
+    name: &str,
+) -> io::Result<()> {
+    let outcome = Err(Check::BatchLength.at(0, 0));
+    let before = marked();
+    let mut t = Tally::default();
+    let case = made(&mut t, g, axes, vals, Ok(())).and(run_batches(
+        &mut t, g, axes, vals, queries, outcome, &before, &before,
+    ));
+    told(rt, s, case, name)
 }
 
 // `new` takes the grid, and both batches take no queries.
 pub fn taken(
     rt: &impl Print,
-    s: Score,
-    g: GroupF32,
+    s: &mut Score,
+    g: Group,
     axes: &[f32],
     vals: &[f32],
-    name: &[u8],
-) -> io::Result<Score> {
-    let before = marked_words();
+    name: &str,
+) -> io::Result<()> {
+    let before = marked();
     let none = with_buffers(g, 0, 0);
-    let w = walk(made(g, axes, vals, 0, 0), 0, 0, 0);
-    let t = run_batches(none, axes, vals, part(axes, 0, 0), w, &before, &before);
-    told(rt, s, t, name)
+    let mut t = Tally::default();
+    let case = made(&mut t, g, axes, vals, Ok(())).and(run_batches(
+        &mut t,
+        none,
+        axes,
+        vals,
+        &[],
+        Ok(()),
+        &before,
+        &before,
+    ));
+    told(rt, s, case, name)
+}
+
+// What a query on one or two axes is answered: its places, its value, its slopes.
+pub fn answer_of(places: [Place; 2], value: f32, slopes: [f32; 2]) -> Expected<f32> {
+    let past = placed(0, Saturation::None);
+    Expected {
+        value: Ok(value),
+        places: [places[0], places[1], past, past].map(ExpectedPlace::of),
+        gradient: [slopes[0], slopes[1], 0.0, 0.0],
+    }
 }
 
 // A query on one axis is answered, alone and in batches.
 pub fn answered(
     rt: &impl Print,
-    s: Score,
-    g: GroupF32,
+    s: &mut Score,
+    g: Group,
     axes: &[f32],
     vals: &[f32],
     x: f32,
-    place: u64,
-    value: u64,
-    slope: u64,
-    name: &[u8],
-) -> io::Result<Score> {
-    let e = answer_of([place, 0], value, [slope, 0]);
-    let mut values = marked_words();
+    place: Place,
+    value: f32,
+    slope: f32,
+    name: &str,
+) -> io::Result<()> {
+    let places = [place, placed(0, Saturation::None)];
+    let e = answer_of(places, value, [slope, 0.0]);
+    let mut values = marked();
     values[0] = value;
-    let mut slopes = marked_words();
+    let mut slopes = marked();
     slopes[0] = slope;
     let one = with_buffers(g, 1, 1);
-    let t = made(g, axes, vals, 0, 0);
-    let t = same_single(t, g, axes, vals, [x, 0.0, 0.0, 0.0], e);
-    let w = walk(t, 0, 0, 0);
-    let t = run_batches(one, axes, vals, &[x], w, &values, &slopes);
-    told(rt, s, t, name)
+    let mut t = Tally::default();
+    let case = made(&mut t, g, axes, vals, Ok(()))
+        .and(same_single(&mut t, g, axes, vals, [x, 0.0, 0.0, 0.0], e))
+        .and(run_batches(&mut t, one, axes, vals, &[x], Ok(()), &values, &slopes));
+    told(rt, s, case, name)
 }
 
-// `new` takes the grid, and a query on one axis is refused by the number, alone and in batches whose buffers keep their contents.
+// `new` takes the grid, and a query on one axis is refused by the check, alone and in batches whose buffers keep their contents.
 pub fn not_placed(
     rt: &impl Print,
-    s: Score,
-    g: GroupF32,
+    s: &mut Score,
+    g: Group,
     axes: &[f32],
     vals: &[f32],
     x: f32,
-    number: u64,
-    name: &[u8],
-) -> io::Result<Score> {
-    let before = marked_words();
+    check: Check,
+    name: &str,
+) -> io::Result<()> {
+    let outcome = Err(check.at(0, 0));
+    let e = refusal(check, 0);
+    let before = marked();
     let one = with_buffers(g, 1, 1);
-    let t = made(g, axes, vals, 0, 0);
-    let t = same_single(t, g, axes, vals, [x, 0.0, 0.0, 0.0], refusal(number, 0));
-    let w = walk(t, number, 0, 0);
-    let t = run_batches(one, axes, vals, &[x], w, &before, &before);
-    told(rt, s, t, name)
+    let mut t = Tally::default();
+    let case = made(&mut t, g, axes, vals, Ok(()))
+        .and(same_single(&mut t, g, axes, vals, [x, 0.0, 0.0, 0.0], e))
+        .and(run_batches(&mut t, one, axes, vals, &[x], outcome, &before, &before));
+    told(rt, s, case, name)
 }
 
 // The value on a grid that is made as a struct and asked.
-fn ask(g: GroupF32, axes: &[f32], vals: &[f32], x: [f32; 4]) -> MarkedAnswerF32 {
-    let n = g.n;
-    let mode = g.mode;
-    if g.rectilinear {
-        let counts = g.counts;
-        return grids_f32::ask_rectilinear(n, counts, axes, vals, mode, x);
+fn ask(g: Group, axes: &[f32], vals: &[f32], x: [f32; 4]) -> Marked<Answer<f32>> {
+    match g.axes {
+        Axes::Regular(regular_axes) => grids_f32::ask_regular(g.n, regular_axes, vals, g.mode, x),
+        Axes::Rectilinear(counts) => grids_f32::ask_rectilinear(g.n, counts, axes, vals, g.mode, x),
     }
-    let regular_axes = g.axes;
-    grids_f32::ask_regular(n, regular_axes, vals, mode, x)
 }
 
-// A kept grid is asked at x on one axis: it answers the value and the mark where the number is 0, else it refuses by that number, at axis 0.
+// A kept grid is asked at x on one axis.
 pub fn kept(
     rt: &impl Print,
-    s: Score,
-    g: GroupF32,
+    s: &mut Score,
+    g: Group,
     axes: &[f32],
     vals: &[f32],
     x: f32,
-    number: u64,
-    value: u64,
-    mark: u64,
-    name: &[u8],
-) -> io::Result<Score> {
-    let mut e = refusal(number, 0);
-    e.value = value;
+    answer: Answer<f32>,
+    mark: Marks,
+    name: &str,
+) -> io::Result<()> {
     let asked = ask(g, axes, vals, [x, 0.0, 0.0, 0.0]);
-    let answer = asked.answer;
-    let marks = asked.marks;
-    let t = same_value(clear(), e, answer);
-    told(
-        rt,
-        s,
-        same_marks(t, INTERP_ONE, [mark, 0, 0, 0], marks),
-        name,
-    )
+    let marks = [mark, NEITHER, NEITHER, NEITHER];
+    let mut t = Tally::default();
+    let case = same_value(&mut t, Call::InterpOne, answer, asked.answer).and(same_marks(
+        &mut t,
+        Call::InterpOne,
+        marks,
+        asked.marks,
+    ));
+    told(rt, s, case, name)
 }
 
 pub fn zeros() -> [f32; 8192]
@@ -267,11 +272,9 @@ fn rising() -> [f32; 4096]
 {
     let mut out = [0.0; 4096];
     let mut x = 0.0;
-    let mut i: usize = 0;
-    while i < 4096 {
-        out[i] = x;
+    for entry in out.iter_mut() {
+        *entry = x;
         x += 1.0;
-        i += 1;
     }
     out
 }
@@ -279,76 +282,66 @@ fn rising() -> [f32; 4096]
 // The same of a regular grid with so many values.
 pub fn regular_refused(
     rt: &impl Print,
-    s: Score,
+    s: &mut Score,
     n: usize,
     counts: [usize; 3],
     steps: [f32; 2],
     values: usize,
-    number: u64,
-    axis: u64,
-    name: &[u8],
-) -> io::Result<Score> {
+    check: Check,
+    axis: usize,
+    name: &str,
+) -> io::Result<()> {
     let g = regular(n, counts[0], counts[1], counts[2], steps[0], steps[1]);
     let zeros = zeros();
-    let vals = part(&zeros, 0, values);
-    refused(rt, s, g, part(&zeros, 0, 0), vals, number, axis, name)
+    refused(rt, s, g, &[], part(&zeros, values), check, axis, name)
 }
 
 // And of a rectilinear grid with so many entries in its joined axes.
 pub fn rectilinear_refused(
     rt: &impl Print,
-    s: Score,
+    s: &mut Score,
     n: usize,
     counts: [usize; 3],
     entries: usize,
     values: usize,
-    number: u64,
-    axis: u64,
-    name: &[u8],
-) -> io::Result<Score> {
+    check: Check,
+    axis: usize,
+    name: &str,
+) -> io::Result<()> {
     let g = rectilinear(n, counts[0], counts[1], counts[2]);
     let zeros = zeros();
-    let vals = part(&zeros, 0, values);
-    refused(rt, s, g, part(&zeros, 0, entries), vals, number, axis, name)
+    let vals = part(&zeros, values);
+    refused(rt, s, g, part(&zeros, entries), vals, check, axis, name)
 }
 
 // One axis is taken.
-pub fn regular_taken(rt: &impl Print, s: Score, count: usize, name: &[u8]) -> io::Result<Score> {
+pub fn regular_taken(rt: &impl Print, s: &mut Score, count: usize, name: &str) -> io::Result<()> {
     let g = regular(1, count, 0, 0, 1.0, 1.0);
     let zeros = zeros();
-    taken(rt, s, g, part(&zeros, 0, 0), part(&zeros, 0, count), name)
+    taken(rt, s, g, &[], part(&zeros, count), name)
 }
 
 pub fn rectilinear_taken(
     rt: &impl Print,
-    s: Score,
+    s: &mut Score,
     count: usize,
-    name: &[u8],
-) -> io::Result<Score> {
+    name: &str,
+) -> io::Result<()> {
     let g = rectilinear(1, count, 0, 0);
     let rising = rising();
-    let entries = part(&rising, 0, count);
+    let entries = part(&rising, count);
     taken(rt, s, g, entries, entries, name)
 }
 
 // Refusals 5, 6 and 10, on two axes of four entries.
 pub fn rectilinear_refused_order(
     rt: &impl Print,
-    s: Score,
+    s: &mut Score,
     entries: [f32; 8],
-    number: u64,
-    axis: u64,
-    name: &[u8],
-) -> io::Result<Score> {
-    let zeros = zeros();
-    refused(
-        rt,
-        s,
-        rectilinear(2, 4, 4, 0),
-        &entries,
-        part(&zeros, 0, 16),
-        number,
-        axis,
-        name,
-    )
+    check: Check,
+    axis: usize,
+    name: &str,
+) -> io::Result<()> {
+    let g = rectilinear(2, 4, 4, 0);
+    refused(rt, s, g, &entries, &[0.0; 16], check, axis, name)
 }

@@ -11,16 +11,15 @@ use lib.ListN.{length, get_or, take, set, length-map, length-set}
 use lib.Seq.{take-suc-set}
 use lib.Ieee.{Float, nan, Format}
 use borrow.Author.Tests.{eq-eqb, ne_eqb}
+use Rattle.multicubic.specs.declared.LocError.{LocError}
+use Rattle.multicubic.specs.declared.Refusal.{Refusal}
+use Rattle.multicubic.specs.declared.Check.{Check}
 use Rattle.ieee.specs.Numbers.{zero as nought}
-use Rattle.multicubic.specs.declared.Answer.TheVariants as Ans
-use Rattle.multicubic.specs.declared.Loc.{Loc}
-use Rattle.multicubic.specs.declared.Loc.TheVariants.{At}
-use Rattle.multicubic.specs.declared.Outcome.{Outcome}
-use Rattle.multicubic.specs.declared.Outcome.TheVariants.{Refused}
+use Rattle.multicubic.specs.Types.{Loc, Outcome, refusal}
+use Rattle.std.specs.Prelude.{Err, Ok}
 use Rattle.multicubic.specs.declared.Place.{Place}
-use Rattle.multicubic.specs.Answers.{answered, place_outcome}
+use Rattle.multicubic.specs.Answers.{check_of}
 use Rattle.multicubic.specs.Place.{nowhere, Placed, refused}
-use Rattle.multicubic.proofs.Numbers.{Unplaced, unplaced_outcome}
 use Rattle.reduction.specs.Value.{strides_of, offset, shifted, block, reduce_of}
 use Rattle.reduction.specs.Internal.{reach, from, Reads}
 use Rattle.reduction.proofs.Reduction.{offset_last, offset-take, read_at, from_block, reaches}
@@ -113,11 +112,11 @@ module _ {n : ℕ} {gs : List GridAxis} {values : ℕ} (fit : Fit n gs values) {
     inside : axis < length gs
     inside = let c = fit.counted in omega arith
 
-    pub pass-refused : (f : Format) (vals : List Float) (i number : ℕ) → outcome (get_or gs axis no_axis) (query axis) ≡ refused number
-        → answered (Refused number i axis) nought ≡ answer_to f gs vals quantity i (find 0 gs query)
-    pass-refused f vals i number e = ap (answer_to f gs vals quantity i) (sym (so-far-refused gs query axis s.so_far inside number e))
+    pub pass-refused : (f : Format) (vals : List Float) (i : ℕ) (check : Check) → outcome (get_or gs axis no_axis) (query axis) ≡ refused check
+        → Err (refusal check i axis) ≡ answer_to f gs vals quantity i (find 0 gs query)
+    pass-refused f vals i check e = ap (answer_to f gs vals quantity i) (sym (so-far-refused gs query axis s.so_far inside check e))
 
-    module _ (p : Place) (e : At p ≡ (get_or gs axis no_axis).loc (query axis)) where
+    module _ (p : Place) (e : Ok p ≡ (get_or gs axis no_axis).loc (query axis)) where
       abbrev more : List ℕ
       more = os ++ (p.origin ∷ [])
 
@@ -171,7 +170,7 @@ module _ {n : ℕ} {gs : List GridAxis} {values : ℕ} (fit : Fit n gs values) {
         let o : length os ≤ n = omega (arith, origins-many) in
         rw (s.base-is, strides-are os o, spaced, fit.size) (reached os (counts_of gs) s.room many)
 
-    pub pass-value : (f : Format) (vals : List Float) (i : ℕ) (r : Float) → Asked n quantity → r ≡ reduce_of f (take n rows) (from vals strides base) → Ans.Value r ≡ answer_to f gs vals quantity i (find 0 gs query)
+    pub pass-value : (f : Format) (vals : List Float) (i : ℕ) (r : Float) → Asked n quantity → r ≡ reduce_of f (take n rows) (from vals strides base) → Ok r ≡ answer_to f gs vals quantity i (find 0 gs query)
     pass-value f vals i r asked e =
         let few = fit.few in
         let ps = s.so_far.ps in
@@ -184,7 +183,7 @@ module _ {n : ℕ} {gs : List GridAxis} {values : ℕ} (fit : Fit n gs values) {
         ∙ from_block f vals (rows_for quantity 0 ps) strides os n base lw (origins-many ∙ done) (omega arith) s.base-is
         ∙ ap (λ (ss : List ℕ). reduce_of f (rows_for quantity 0 ps) (block vals ss os)) spaced
         ∙ reduced-rows f (counts_of gs) vals quantity ps ask in
-        ap Ans.Value value ∙ ap (answer_to f gs vals quantity i) (sym (so-far-all gs query axis s.so_far (done ∙ sym fit.counted)))
+        ap Ok value ∙ ap (answer_to f gs vals quantity i) (sym (so-far-all gs query axis s.so_far (done ∙ sym fit.counted)))
 
 -- ---- the pass over query i of a batch: its coordinates stand in the joined columns, and are read by a running index
 pub record Turn (gs : List GridAxis) (n : ℕ) (queries : List Float) (count i : ℕ) (quantity : Quantity) (strides : List ℕ) (axis at : ℕ) (rows : List (List Float)) (base : ℕ) : Type 0 where
@@ -217,16 +216,15 @@ module _ {n : ℕ} {gs : List GridAxis} {values : ℕ} (fit : Fit n gs values) {
       turn-loc : (l : Loc) → l ≡ g.loc (get_or queries at nan) → l ≡ (get_or gs axis no_axis).loc (query_at count queries i axis)
       turn-loc l e = e ∙ ap (λ (k : GridAxis). k.loc (get_or queries at nan)) same ∙ ap (get_or gs axis no_axis).loc turn-x
 
-      pub turn-refused : (f : Format) (vals : List Float) (l : Loc) → l ≡ g.loc (get_or queries at nan) → Unplaced l
-          → answered (place_outcome i axis l) nought ≡ answer_to f gs vals quantity i (found_at gs count queries i)
-      turn-refused f vals l e u =
-          ap (λ (o : Outcome). answered o nought) (unplaced_outcome l u i axis)
-          ∙ pass-refused fit t.four t.spaced t.pass h f vals i _ (unplaced_on (get_or gs axis no_axis) (query_at count queries i axis) l u (turn-loc l e))
+      pub turn-refused : (f : Format) (vals : List Float) (error : LocError) → Err error ≡ g.loc (get_or queries at nan)
+          → Err (refusal (check_of error) i axis) ≡ answer_to f gs vals quantity i (found_at gs count queries i)
+      turn-refused f vals error e =
+          pass-refused fit t.four t.spaced t.pass h f vals i _ (unplaced_on (get_or gs axis no_axis) (query_at count queries i axis) error (turn-loc (Err error) e))
 
-      module _ (p : Place) (e : At p ≡ g.loc (get_or queries at nan)) where
+      module _ (p : Place) (e : Ok p ≡ g.loc (get_or queries at nan)) where
         -- the index stays small
         pub turn_small : base + p.origin * get_or strides axis 0 < 1048576
-        turn_small = let m = fit.most in let l = pass-small fit t.four t.spaced t.pass h p (turn-loc (At p) e) in omega arith
+        turn_small = let m = fit.most in let l = pass-small fit t.four t.spaced t.pass h p (turn-loc (Ok p) e) in omega arith
 
         pub turn-next : (row : List Float) → row ≡ row_at g (get_or queries at nan) p (is_component quantity axis) → Turn gs n queries count i quantity strides (axis + 1) (at + count) (set rows axis row) (base + p.origin * get_or strides axis 0)
         turn-next row r = record {
@@ -237,7 +235,7 @@ module _ {n : ℕ} {gs : List GridAxis} {values : ℕ} (fit : Fit n gs values) {
           four = t.four;
           spaced = t.spaced;
           at-is = let z = t.at-is in omega (arith, suc-mul axis count, add-one axis);
-          pass = pass-turn fit t.four t.spaced t.pass h p (turn-loc (At p) e) row
+          pass = pass-turn fit t.four t.spaced t.pass h p (turn-loc (Ok p) e) row
               (r ∙ ap (λ (k : GridAxis). row_at k (get_or queries at nan) p (is_component quantity axis)) same ∙ ap (λ (x : Float). row_at (get_or gs axis no_axis) x p (is_component quantity axis)) turn-x);
         }
 
@@ -274,7 +272,7 @@ module _ {n : ℕ} {gs : List GridAxis} {values : ℕ} (fit : Fit n gs values) {
           (λ z. let m = reached-by 4 z in let e = r.3 in omega arith),
         )
 
-    pub turn-value : (f : Format) (vals : List Float) (k : ℕ) → n ≡ k → (r : Float) → r ≡ reduce_of f (take k rows) (from vals strides base) → Ans.Value r ≡ answer_to f gs vals quantity i (found_at gs count queries i)
+    pub turn-value : (f : Format) (vals : List Float) (k : ℕ) → n ≡ k → (r : Float) → r ≡ reduce_of f (take k rows) (from vals strides base) → Ok r ≡ answer_to f gs vals quantity i (found_at gs count queries i)
     turn-value f vals k z r e = pass-value fit t.four t.spaced t.pass done f vals i r t.asked (e ∙ ap (λ (m : ℕ). reduce_of f (take m rows) (from vals strides base)) (sym z))
 
 pub turn_none : (gs : List GridAxis) (n : ℕ) (queries : List Float) (count i : ℕ) (quantity : Quantity) (strides : List ℕ) (rows : List (List Float)) → i < count → n * count ≤ length queries → Asked n quantity → length strides ≡ 4 → take n strides ≡ strides_of (counts_of gs) → length rows ≡ 4 → Turn gs n queries count i quantity strides 0 i rows 0
@@ -291,10 +289,10 @@ turn_none gs n queries count i quantity strides rows own lent asked four spaced 
 
 -- ---- what one query's answer tells of its places
 module _ (f : Format) (gs : List GridAxis) (vals : List Float) (quantity : Quantity) (i : ℕ) where
-  pub answer-refused : (r : Found) (k q a : ℕ) → Ans.Refused k q a ≡ answer_to f gs vals quantity i r → (r ≡ refused_at k a) × (Refused k q a ≡ Refused k i a)
-  answer-refused (refused_at m b) k q a e = (cc, cc)
-  answer-refused (places ps) k q a e = absurd (let y : ◌≡◌ {A = ℕ} 0 1 = cc in omega arith)
+  pub answer-refused : (r : Found) (by : Refusal) → Err by ≡ answer_to f gs vals quantity i r → (r ≡ refused_at by.check by.axis) × (by ≡ refusal by.check i by.axis)
+  answer-refused (refused_at m b) by e = let z : by ≡ refusal m i b = cc in rw z (refl, refl)
+  answer-refused (places ps) by e = absurd (let y : ◌≡◌ {A = ℕ} 0 1 = cc in omega arith)
 
-  pub answer-value : (r : Found) (v : Float) → Ans.Value v ≡ answer_to f gs vals quantity i r → (ps : List Placed) × (r ≡ places ps) × (v ≡ quantity_at f (counts_of gs) vals quantity ps)
+  pub answer-value : (r : Found) (v : Float) → Ok v ≡ answer_to f gs vals quantity i r → (ps : List Placed) × (r ≡ places ps) × (v ≡ quantity_at f (counts_of gs) vals quantity ps)
   answer-value (refused_at m b) v e = absurd (let y : ◌≡◌ {A = ℕ} 0 1 = cc in omega arith)
   answer-value (places ps) v e = (ps, refl, cc)

@@ -6,10 +6,9 @@ use Prim.Native.Nat.{ℕ, suc, ◌+◌, ◌<◌}
 use native.Mathlib.Omega.{arith}
 use lib.ListN.{length, get_or}
 use lib.Ieee.{Float, Format}
-use Rattle.multicubic.specs.declared.Answer.{Answer}
-use Rattle.multicubic.specs.declared.Loc.{Loc}
-use Rattle.multicubic.specs.declared.Loc.TheVariants.{At, NotANumber, Unplaceable}
-use Rattle.multicubic.specs.declared.Outcome.{Outcome}
+use Rattle.multicubic.specs.Types.{Loc, Outcome}
+use Rattle.multicubic.specs.declared.LocError.TheVariants.{NotANumber, Unplaceable}
+use Rattle.std.specs.Prelude.{Err, Ok}
 use Rattle.multicubic.specs.declared.Place.{Place}
 use Rattle.multicubic.specs.Answers.{answered}
 use Rattle.multicubic.specs.Grid.{◌then◌}
@@ -46,16 +45,16 @@ abbrev bare : Placed → Placed
 bare p = record { place = p.place; weights = p.weights; derivatives = [] }
 
 abbrev bared : Found → Found
-bared (refused_at number axis) = refused_at number axis
+bared (refused_at check axis) = refused_at check axis
 bared (places ps) = places (map bare ps)
 
 bared-located : (axis : ℕ) (w d d' : Place → List Float) (l : Loc) (r r' : Found) → bared r ≡ bared r' → bared (located axis (outcome_at w d l) r) ≡ bared (located axis (outcome_at w d' l) r')
-bared-located axis w d d' NotANumber r r' e = refl
-bared-located axis w d d' Unplaceable r r' e = refl
-bared-located axis w d d' (At p) (refused_at k a) (refused_at m b) e = e
-bared-located axis w d d' (At p) (refused_at k a) (places qs) e = absurd (let y : ◌≡◌ {A = ℕ} 0 1 = cc in omega arith)
-bared-located axis w d d' (At p) (places ps) (refused_at m b) e = absurd (let y : ◌≡◌ {A = ℕ} 0 1 = cc in omega arith)
-bared-located axis w d d' (At p) (places ps) (places qs) e =
+bared-located axis w d d' (Err NotANumber) r r' e = refl
+bared-located axis w d d' (Err Unplaceable) r r' e = refl
+bared-located axis w d d' (Ok p) (refused_at k a) (refused_at m b) e = e
+bared-located axis w d d' (Ok p) (refused_at k a) (places qs) e = absurd (let y : ◌≡◌ {A = ℕ} 0 1 = cc in omega arith)
+bared-located axis w d d' (Ok p) (places ps) (refused_at m b) e = absurd (let y : ◌≡◌ {A = ℕ} 0 1 = cc in omega arith)
+bared-located axis w d d' (Ok p) (places ps) (places qs) e =
     let z : map bare ps ≡ map bare qs = cc in
     ap (λ (rs : List Placed). places (record { place = p; weights = w p; derivatives = [] } ∷ rs)) z
 

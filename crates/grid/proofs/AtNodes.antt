@@ -11,9 +11,9 @@ use lib.IntN.{ℤ, pos, negsuc}
 use lib.ListN.{length}
 use lib.Ieee.{Float, Format, eq, fits}
 use lib.Ieee.Bits.{is_true}
+use Rattle.std.specs.Prelude.{Ok}
 use Rattle.ieee.proofs.Order.{eq-sym, eq_trans}
-use Rattle.multicubic.specs.declared.Outcome.TheVariants.{Accepted}
-use Rattle.multicubic.specs.declared.Answer.TheVariants.{Value}
+use Rattle.multicubic.specs.Types.{accepted, refusal}
 use Rattle.multicubic.specs.Grid.{product, ◌then◌}
 use Rattle.multicubic.specs.Answers.{answered}
 use Rattle.multicubic.specs.Place.{origin_of, Placed}
@@ -116,7 +116,7 @@ found_at query axis (g ∷ gs) (i ∷ is) long at =
     }
 
 -- ---- the value there
-pub answer_found : (f : Format) (g : Grid) (query : ℕ → Float) (ps : List Placed) → g.checked ≡ Accepted → find 0 g.axes query ≡ places ps → value_answer f g query ≡ Value (value_of f (grid_counts g) g.vals ps)
+pub answer_found : (f : Format) (g : Grid) (query : ℕ → Float) (ps : List Placed) → g.checked ≡ accepted → find 0 g.axes query ≡ places ps → value_answer f g query ≡ Ok (value_of f (grid_counts g) g.vals ps)
 answer_found f g query ps accepted found = λ i. answered (accepted i then found_outcome 0 (found i)) (found_value f (grid_counts g) g.vals (found i))
 
 module _ (f : Format) (g : Grid) (is : List ℕ) (query : ℕ → Float) (sized : Sized g) (whole : FiniteValues g.vals) (held : Fits f g.vals) (h : FoundAt 0 g.axes is query) where
@@ -147,7 +147,7 @@ node-value f g is query c =
     (h.ps, h.found, value-stored f g is query c.sized c.whole c.held h)
 
 -- the answer is no refusal, and is that number
-pub node-answer : (f : Format) (g : Grid) (is : List ℕ) (query : ℕ → Float) → g.checked ≡ Accepted → NodeCase f g is query → (v : Float) × (value_answer f g query ≡ Value v) × T (eq v (stored g is))
+pub node-answer : (f : Format) (g : Grid) (is : List ℕ) (query : ℕ → Float) → g.checked ≡ accepted → NodeCase f g is query → (v : Float) × (value_answer f g query ≡ Ok v) × T (eq v (stored g is))
 node-answer f g is query accepted c =
     let n = node-value f g is query c in
     (value_of f (grid_counts g) g.vals n.0, answer_found f g query n.0 accepted n.1, n.2)
@@ -165,8 +165,8 @@ same_numbers v v' s s' p q =
     same_bool (eq v v') (eq s s') (λ e. eq_trans s v s' (eq-sym v s a) (eq_trans v v' s' e b)) (λ e. eq_trans v s v' a (eq_trans s s' v' e (eq-sym v' s' b)))
 
 -- within the premises, each in a setting of its own, two tables' answers at a node are different numbers if and only if the stored ones are
-pub node_differs : (f : Format) (g g' : Grid) (is : List ℕ) (query : ℕ → Float) → g.checked ≡ Accepted → g'.checked ≡ Accepted → NodeCase f g is query → NodeCase f g' is query
-    → (v : Float) × (v' : Float) × (value_answer f g query ≡ Value v) × (value_answer f g' query ≡ Value v') × (eq v v' ≡ eq (stored g is) (stored g' is))
+pub node_differs : (f : Format) (g g' : Grid) (is : List ℕ) (query : ℕ → Float) → g.checked ≡ accepted → g'.checked ≡ accepted → NodeCase f g is query → NodeCase f g' is query
+    → (v : Float) × (v' : Float) × (value_answer f g query ≡ Ok v) × (value_answer f g' query ≡ Ok v') × (eq v v' ≡ eq (stored g is) (stored g' is))
 node_differs f g g' is query a a' c c' =
     let n = node-answer f g is query a c in
     let n' = node-answer f g' is query a' c' in

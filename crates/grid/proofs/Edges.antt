@@ -17,8 +17,9 @@ use Rattle.ieee.proofs.ZeroOne.{same_refl}
 use Rattle.ieee.proofs.Cancel.{same→eq}
 use Rattle.multicubic.specs.declared.EdgeMode.{EdgeMode}
 use Rattle.multicubic.specs.declared.EdgeMode.TheVariants.{Cubic, Straight, Held}
-use Rattle.multicubic.specs.declared.Loc.{Loc}
-use Rattle.multicubic.specs.declared.Loc.TheVariants.{At, NotANumber, Unplaceable}
+use Rattle.multicubic.specs.Types.{Loc}
+use Rattle.multicubic.specs.declared.LocError.TheVariants.{NotANumber, Unplaceable}
+use Rattle.std.specs.Prelude.{Err, Ok}
 use Rattle.multicubic.specs.declared.Marks.{Marks}
 use Rattle.multicubic.specs.declared.Place.{Place}
 use Rattle.multicubic.specs.Place.{straight_of, Placed, placed, outcome_at}
@@ -144,9 +145,9 @@ edge_order f Held axis ok = record { some = (ok false).some; fit = (ok false).fi
 
 -- other derivative weights at the same place
 weighed : (w d d' : Place → List Float) (l : Loc) (q : Placed) → outcome_at w d l ≡ placed q → outcome_at w d' l ≡ placed (record { place = q.place; weights = q.weights; derivatives = d' q.place })
-weighed w d d' NotANumber q e = absurd (let y : ◌≡◌ {A = ℕ} 0 1 = cc in omega arith)
-weighed w d d' Unplaceable q e = absurd (let y : ◌≡◌ {A = ℕ} 0 1 = cc in omega arith)
-weighed w d d' (At p) q e =
+weighed w d d' (Err NotANumber) q e = absurd (let y : ◌≡◌ {A = ℕ} 0 1 = cc in omega arith)
+weighed w d d' (Err Unplaceable) q e = absurd (let y : ◌≡◌ {A = ℕ} 0 1 = cc in omega arith)
+weighed w d d' (Ok p) q e =
     let z : record { place = p; weights = w p; derivatives = d p } ≡ q = cc in
     ap (λ (r : Placed). placed (record { place = r.place; weights = r.weights; derivatives = d' r.place })) z
 

@@ -8,9 +8,10 @@ use native.Mathlib.Omega.{arith}
 use lib.IntN.{ℤ}
 use lib.ListN.{length, get_or, take, get_or-map}
 use lib.Ieee.{Float}
-use Rattle.multicubic.specs.declared.Loc.TheVariants.{At}
+use Rattle.multicubic.specs.Types.{Loc}
+use Rattle.std.specs.Prelude.{Option}
+use Rattle.std.specs.Prelude.{Ok}
 use Rattle.multicubic.specs.declared.Place.{Place}
-use Rattle.multicubic.specs.declared.AxesLength.{AxesLength}
 use Rattle.multicubic.specs.Grid.{product}
 use Rattle.multicubic.specs.Place.{origin_of, place_of}
 use Rattle.multicubic.proofs.Passed.{Passed}
@@ -25,10 +26,10 @@ use Rattle.grid.proofs.AtNodes.{origin_most}
 
 -- a place's block of four lies on the axis
 abbrev pub Roomy : GridAxis → Type 0
-Roomy g = (x : Float) (p : Place) → g.loc x ≡ At p → p.origin + 4 ≤ g.count
+Roomy g = (x : Float) (p : Place) → g.loc x ≡ Ok p → p.origin + 4 ≤ g.count
 
 -- a place from any L
-pub roomy_place : (n : ℕ) (l : ℤ) (p : Place) → 4 ≤ n → At (place_of n l) ≡ At p → p.origin + 4 ≤ n
+pub roomy_place : (n : ℕ) (l : ℤ) (p : Place) → 4 ≤ n → ◌≡◌ {A = Loc} (Ok (place_of n l)) (Ok p) → p.origin + 4 ≤ n
 roomy_place n l p h e =
     let z : place_of n l ≡ p = cc in
     let m : origin_of n l ≤ n - 4 = origin_most n l in
@@ -44,7 +45,7 @@ pub record Fit (n : ℕ) (gs : List GridAxis) (values : ℕ) : Type 0 where
   pub most : values ≤ 1048576
 
 -- each kind has it from its checks 1 to 4
-pub fits_by : {n : ℕ} {counts : List ℕ} {values : ℕ} {axes : AxesLength} (gs : List GridAxis) → Passed n counts values axes → length gs ≡ n → counts_of gs ≡ take n counts → All Roomy gs → Fit n gs values
+pub fits_by : {n : ℕ} {counts : List ℕ} {values : ℕ} {axes : Option ℕ} (gs : List GridAxis) → Passed n counts values axes → length gs ≡ n → counts_of gs ≡ take n counts → All Roomy gs → Fit n gs values
 fits_by {n} {counts} gs p counted same roomy =
     record {
       some = p.some;
@@ -97,5 +98,5 @@ roomy_at [] i r h = absurd (omega arith)
 roomy_at (g ∷ gs) zero r h = r.0
 roomy_at (g ∷ gs) (suc i) r h = roomy_at gs i r.1 (omega arith)
 
-pub room_at : (gs : List GridAxis) (i : ℕ) → All Roomy gs → i < length gs → (x : Float) (p : Place) → At p ≡ (get_or gs i no_axis).loc x → p.origin + 4 ≤ get_or (counts_of gs) i 0
+pub room_at : (gs : List GridAxis) (i : ℕ) → All Roomy gs → i < length gs → (x : Float) (p : Place) → Ok p ≡ (get_or gs i no_axis).loc x → p.origin + 4 ≤ get_or (counts_of gs) i 0
 room_at gs i r h x p e = rw (get_or-map (λ (g : GridAxis). g.count) gs i no_axis) (roomy_at gs i r h x p (sym e))

@@ -8,8 +8,9 @@ use native.Mathlib.Omega.{arith}
 use lib.Dec.{T}
 use lib.ListN.{length, get_or}
 use lib.Ieee.{Float, nan, Format, eq}
-use Rattle.multicubic.specs.declared.Outcome.{Outcome}
-use Rattle.multicubic.specs.declared.Outcome.TheVariants.{Accepted, Refused}
+use Rattle.multicubic.specs.declared.Check.{Check}
+use Rattle.multicubic.specs.Types.{Outcome, accepted, refusal}
+use Rattle.std.specs.Prelude.{Err, Ok}
 use Rattle.multicubic.specs.Grid.{◌then◌}
 use Rattle.multicubic.specs.Place.{Placed}
 use Rattle.grid.specs.Query.{Grid, Found, places, refused_at, grid_counts, counts_of, value_of, components_of}
@@ -20,7 +21,7 @@ use Rattle.grid.proofs.OfBlocks.{block-value, block-components}
 use Rattle.grid.proofs.Batches.{PlacedAt, placed-or-lowest, interp-unwritten, grad-unwritten, interp-holds, interp-keeps, grad-holds, grad-keeps}
 
 -- ---- nodes: where check 7 passes and no query before it is refused, the query's entry is the stored number afterwards
-pub node-entry : (f : Format) (g : Grid) (is : List ℕ) (queries buffer : List Float) → value_checks f g queries buffer ≡ Accepted → (i : ℕ) → i < length buffer → ((j : ℕ) → j < i → PlacedAt (found_at g.axes (length buffer) queries) j)
+pub node-entry : (f : Format) (g : Grid) (is : List ℕ) (queries buffer : List Float) → value_checks f g queries buffer ≡ accepted → (i : ℕ) → i < length buffer → ((j : ℕ) → j < i → PlacedAt (found_at g.axes (length buffer) queries) j)
     → NodeCase f g is (query_at (length buffer) queries i) → T (eq (get_or (interp_buffer f g queries buffer) i nan) (stored g is))
 node-entry f g is queries buffer checked i h before c =
     let n = node-value f g is (query_at (length buffer) queries i) c in
@@ -29,18 +30,18 @@ node-entry f g is queries buffer checked i h before c =
     subst (λ (v : Float). T (eq v (stored g is))) (sym (interp-holds f g queries buffer checked i h upto n.0 n.1)) n.2
 
 -- ---- blocks: one of two, by the checks and by whether every query up to i is placed
-either : {A B : Type 0} (checks : Outcome) (found : ℕ → Found) (i : ℕ) → ((number query axis : ℕ) → checks ≡ Refused number query axis → B) → (checks ≡ Accepted → ((j : ℕ) → j ≤ i → PlacedAt found j) → A)
-    → (checks ≡ Accepted → (k j a : ℕ) → j ≤ i → found j ≡ refused_at k a → B) → A ⊎ B
-either (Refused number query axis) found i refused answered kept = inr (refused number query axis refl)
-either Accepted found i refused answered kept = elim (placed-or-lowest found i) [
+either : {A B : Type 0} (checks : Outcome) (found : ℕ → Found) (i : ℕ) → ((check : Check) (query axis : ℕ) → checks ≡ Err (refusal check query axis) → B) → (checks ≡ accepted → ((j : ℕ) → j ≤ i → PlacedAt found j) → A)
+    → (checks ≡ accepted → (k : Check) (j a : ℕ) → j ≤ i → found j ≡ refused_at k a → B) → A ⊎ B
+either (Err r) found i refused answered kept = inr (refused r.check r.query r.axis refl)
+either (Ok _) found i refused answered kept = elim (placed-or-lowest found i) [
   | inl all ↦ inl (answered refl all)
   | inr low ↦ inr (kept refl low.0 low.1 low.2 (let l = low.3.inside in omega arith) low.3.fails)
 ]
 
 -- two accepted grids with the same axes and setting
 pub record Alike (g g' : Grid) : Type 0 where
-  pub taken : g.checked ≡ Accepted
-  pub taken' : g'.checked ≡ Accepted
+  pub taken : g.checked ≡ accepted
+  pub taken' : g'.checked ≡ accepted
   pub count : g.axis-count ≡ g'.axis-count
   pub axes : g.axes ≡ g'.axes
 

@@ -7,15 +7,15 @@ use native.Mathlib.Omega.{arith}
 use lib.ListN.{length, get_or, take, drop, set, length-map}
 use lib.Seq.{drop-cons, drop-length}
 use lib.Ieee.{Float}
-use Rattle.multicubic.specs.declared.Outcome.{Outcome}
-use Rattle.multicubic.specs.declared.Outcome.TheVariants.{Accepted}
-use Rattle.multicubic.specs.declared.Loc.{Loc}
-use Rattle.multicubic.specs.declared.Loc.TheVariants.{At}
+use Rattle.multicubic.specs.declared.Check.{Check}
+use Rattle.multicubic.specs.declared.LocError.{LocError}
+use Rattle.std.specs.Prelude.{Err}
+use Rattle.multicubic.specs.Types.{Loc, Outcome, accepted, refusal}
+use Rattle.std.specs.Prelude.{Ok}
 use Rattle.multicubic.specs.declared.Place.{Place}
 use Rattle.multicubic.specs.declared.PlaceAnswer.{PlaceAnswer}
-use Rattle.multicubic.specs.Answers.{number_of, place_outcome}
+use Rattle.multicubic.specs.Answers.{check_of}
 use Rattle.multicubic.specs.Place.{nowhere, Placed, refused, placed, outcome_at}
-use Rattle.multicubic.proofs.Numbers.{Unplaced, unplaced_outcome, unplaced_at}
 use Rattle.multicubic.specs.Internal.{four_nowhere}
 use Rattle.grid.specs.Query.{GridAxis, outcome, Grid, Found, refused_at, places, located, find, outcome_of, places_of, place_answer}
 use Rattle.grid.specs.Internal.{Located, no_axis}
@@ -51,15 +51,15 @@ put_four {A = A} other xs x k e h = rw (← e) (go xs (omega arith))
 -- ---- the first i axes have placed the query at ps; the others are still to be looked through
 -- the places ps before those that are found later
 abbrev after : List Placed → Found → Found
-after ps (refused_at number axis) = refused_at number axis
+after ps (refused_at check axis) = refused_at check axis
 after ps (places qs) = places (ps ++ qs)
 
 pub after_none : (r : Found) → r ≡ after [] r
-after_none (refused_at number axis) = refl
+after_none (refused_at check axis) = refl
 after_none (places qs) = refl
 
 pub after_one : (axis : ℕ) (ps : List Placed) (p : Placed) (r : Found) → after ps (located axis (placed p) r) ≡ after (ps ++ (p ∷ [])) r
-after_one axis ps p (refused_at number later) = refl
+after_one axis ps p (refused_at check later) = refl
 after_one axis ps p (places qs) = ap places (append_one ps qs p)
 
 pub record SoFar (gs : List GridAxis) (query : ℕ → Float) (i : ℕ) : Type 0 where
@@ -81,7 +81,7 @@ module _ (gs : List GridAxis) (query : ℕ → Float) where
       pub next : find 0 gs query ≡ after s.ps (find i (get_or gs i no_axis ∷ drop (suc i) gs) query)
       next = s.is ∙ ap (λ (rest : List GridAxis). after s.ps (find i rest query)) (drop-cons gs i no_axis h)
 
-      abbrev pub so-far-placed : (p : Place) → At p ≡ (get_or gs i no_axis).loc (query i) → SoFar gs query (i + 1)
+      abbrev pub so-far-placed : (p : Place) → Ok p ≡ (get_or gs i no_axis).loc (query i) → SoFar gs query (i + 1)
       so-far-placed p e =
           let q : Placed = placed_on (get_or gs i no_axis) (query i) p in
           record {
@@ -90,8 +90,8 @@ module _ (gs : List GridAxis) (query : ℕ → Float) where
             is = rw add-one (next ∙ rw (sym e) (after_one i s.ps q (find (suc i) (drop (suc i) gs) query)));
           }
 
-      pub so-far-refused : (number : ℕ) → outcome (get_or gs i no_axis) (query i) ≡ refused number → find 0 gs query ≡ refused_at number i
-      so-far-refused number e = next ∙ rw e refl
+      pub so-far-refused : (check : Check) → outcome (get_or gs i no_axis) (query i) ≡ refused check → find 0 gs query ≡ refused_at check i
+      so-far-refused check e = next ∙ rw e refl
 
     pub so-far-all : i ≡ length gs → find 0 gs query ≡ places s.ps
     so-far-all z =
@@ -108,7 +108,7 @@ module _ (gs : List GridAxis) (query : ℕ → Float) (kept : List Place) where
   placing-none e = record { so_far = so-far-none gs query; kept-is = e }
 
   module _ (i : ℕ) (s : Placing gs query i kept) where
-    pub placing-turn : i < length gs → i < 4 → (p : Place) → At p ≡ (get_or gs i no_axis).loc (query i) → Placing gs query (i + 1) (set kept i p)
+    pub placing-turn : i < length gs → i < 4 → (p : Place) → Ok p ≡ (get_or gs i no_axis).loc (query i) → Placing gs query (i + 1) (set kept i p)
     placing-turn h m p e =
         let ps = s.so_far.ps in
         record {
@@ -116,22 +116,22 @@ module _ (gs : List GridAxis) (query : ℕ → Float) (kept : List Place) where
           kept-is = rw (s.kept-is, map-one) (put_four nowhere (places_of ps) p i (length-map ps (λ (r : Placed). r.place) ∙ s.so_far.many) m);
         }
 
-    pub placing-all : i ≡ length gs → (number : ℕ) → Located number gs query (record { outcome = Accepted; places = kept })
+    pub placing-all : i ≡ length gs → (number : ℕ) → Located number gs query (record { outcome = accepted; places = kept })
     placing-all z number =
         let e = so-far-all gs query i s.so_far z in
         (rw e refl, rw e s.kept-is)
 
 -- a grid that is taken answers what its axes give
-pub place_found : (g : Grid) (query : ℕ → Float) (r : PlaceAnswer) → g.checked ≡ Accepted → Located 0 g.axes query r → (r.outcome ≡ outcome_of g query) × (r.places ≡ place_answer g query)
+pub place_found : (g : Grid) (query : ℕ → Float) (r : PlaceAnswer) → g.checked ≡ accepted → Located 0 g.axes query r → (r.outcome ≡ outcome_of g query) × (r.places ≡ place_answer g query)
 place_found g query r e p = (rw e p.0, rw e p.1)
 
--- an axis without a place for the query refuses it by the number that its place has
-pub unplaced_on : (g : GridAxis) (x : Float) (l : Loc) → Unplaced l → l ≡ g.loc x → outcome g x ≡ refused (number_of (place_outcome 0 0 l))
-unplaced_on g x l u e = ap (outcome_at (g.weights x) (g.derivatives x)) (sym e) ∙ unplaced_at (g.weights x) (g.derivatives x) l u
+-- an axis without a place for the query refuses it
+pub unplaced_on : (g : GridAxis) (x : Float) (error : LocError) → Err error ≡ g.loc x → outcome g x ≡ refused (check_of error)
+unplaced_on g x error e = ap (outcome_at (g.weights x) (g.derivatives x)) (sym e)
 
 -- so nothing is placed
-pub located-refused : (gs : List GridAxis) (query : ℕ → Float) (i : ℕ) → SoFar gs query i → i < length gs → (l : Loc) → l ≡ (get_or gs i no_axis).loc (query i) → Unplaced l
-    → (o : Outcome) (kept : List Place) → o ≡ place_outcome 0 i l → kept ≡ four_nowhere → Located 0 gs query (record { outcome = o; places = kept })
-located-refused gs query i s h l e u o kept p n =
-    let f = so-far-refused gs query i s h (number_of (place_outcome 0 0 l)) (unplaced_on (get_or gs i no_axis) (query i) l u e) in
-    (p ∙ unplaced_outcome l u 0 i ∙ rw f refl, n ∙ rw f refl)
+pub located-refused : (gs : List GridAxis) (query : ℕ → Float) (i : ℕ) → SoFar gs query i → i < length gs → (error : LocError) → Err error ≡ (get_or gs i no_axis).loc (query i)
+    → (o : Outcome) (kept : List Place) → o ≡ Err (refusal (check_of error) 0 i) → kept ≡ four_nowhere → Located 0 gs query (record { outcome = o; places = kept })
+located-refused gs query i s h error e o kept p n =
+    let f = so-far-refused gs query i s h (check_of error) (unplaced_on (get_or gs i no_axis) (query i) error e) in
+    (p ∙ rw f refl, n ∙ rw f refl)

@@ -9,12 +9,13 @@ use lib.ListN.{length, get_or, take, set}
 use lib.Seq.{length-take-le, take_all, take-suc}
 use lib.IntN.{pos}
 use lib.Ieee.{Float, nan, inf, fin, lt, eq}
+use Rattle.multicubic.specs.declared.Refusal.{Refusal}
 use Rattle.ieee.proofs.Order.{true-not-false, lt_irrefl, eq-lt-left, eq_lt_right}
 use Rattle.multicubic.specs.declared.EdgeMode.{EdgeMode}
 use Rattle.multicubic.specs.declared.EdgeMode.TheVariants.{Cubic, Straight, Held}
-use Rattle.multicubic.specs.declared.Outcome.{Outcome}
-use Rattle.multicubic.specs.declared.Outcome.TheVariants.{Accepted, Refused}
-use Rattle.multicubic.specs.declared.Loc.TheVariants.{Unplaceable}
+use Rattle.multicubic.specs.Types.{Outcome, accepted, refusal}
+use Rattle.multicubic.specs.declared.LocError.TheVariants.{Unplaceable}
+use Rattle.std.specs.Prelude.{Err}
 use Rattle.multicubic.specs.declared.Marks.{Marks}
 use Rattle.multicubic.specs.Place.{unmarked}
 use Rattle.multicubic.specs.Internal.{four_unmarked}
@@ -37,7 +38,7 @@ marks_at_lem axis (suc i) (g ∷ gs) query h =
 
 -- ---- the first i of them are set
 pub record Marking (gs : List GridAxis) (query : ℕ → Float) (i : ℕ) (marks : List Marks) : Type 0 where
-  pub marks-are : marks ≡ four_of Accepted unmarked (take i (marks_from 0 gs query))
+  pub marks-are : marks ≡ four_of accepted unmarked (take i (marks_from 0 gs query))
 
 pub marking_none : (gs : List GridAxis) (query : ℕ → Float) (marks : List Marks) → marks ≡ four_unmarked → Marking gs query 0 marks
 marking_none gs query marks e = record { marks-are = e }
@@ -51,8 +52,8 @@ module _ {gs : List GridAxis} {query : ℕ → Float} {i : ℕ} {marks : List Ma
       let own : m ≡ get_or ms i unmarked = e ∙ ap (λ (j : ℕ). marks_at (get_or gs i no_axis) (query j)) z ∙ sym (marks_at_lem 0 i gs query h) in
       record { marks-are = rw (s.marks-are, own) (put_four unmarked (take i ms) (get_or ms i unmarked) i (length-take-le i ms (omega arith)) four ∙ rw (add-one, take-suc ms i unmarked k) refl) }
 
-  pub marking-all : i ≡ length gs → marks ≡ marks_beside Accepted gs query
-  marking-all z = s.marks-are ∙ ap (four_of Accepted unmarked) (take_all i (marks_from 0 gs query) (omega (arith, marks_length 0 gs query)))
+  pub marking-all : i ≡ length gs → marks ≡ marks_beside accepted gs query
+  marking-all z = s.marks-are ∙ ap (four_of accepted unmarked) (take_all i (marks_from 0 gs query) (omega (arith, marks_length 0 gs query)))
 
 -- ---- beside the outcome of a call
 pub marks_beside_lem : (g : Grid) (query : ℕ → Float) (outcome : Outcome) (marks : List Marks) → outcome ≡ outcome_of g query
@@ -60,13 +61,13 @@ pub marks_beside_lem : (g : Grid) (query : ℕ → Float) (outcome : Outcome) (m
 marks_beside_lem g query outcome marks e m = m ∙ ap (λ (o : Outcome). marks_beside o g.axes query) e
 
 -- an accepted query's grid is taken
-pub checked_first : (g : Grid) (query : ℕ → Float) (outcome : Outcome) → outcome ≡ outcome_of g query → outcome ≡ Accepted → g.checked ≡ Accepted
+pub checked_first : (g : Grid) (query : ℕ → Float) (outcome : Outcome) → outcome ≡ outcome_of g query → outcome ≡ accepted → g.checked ≡ accepted
 checked_first g query outcome e a = (then_accepted g.checked (found_outcome 0 (find 0 g.axes query)) (sym e ∙ a)).0
 
 -- ---- what they say
 -- refused, none is set
-pub marks_refused : (g : Grid) (query : ℕ → Float) (k q a : ℕ) → outcome_of g query ≡ Refused k q a → mark_answer g query ≡ four_unmarked
-marks_refused g query k q a e = ap (λ (o : Outcome). marks_beside o g.axes query) e
+pub marks_refused : (g : Grid) (query : ℕ → Float) (by : Refusal) → outcome_of g query ≡ Err by → mark_answer g query ≡ four_unmarked
+marks_refused g query by e = ap (λ (o : Outcome). marks_beside o g.axes query) e
 
 -- an axis has the same marks in every setting
 pub edge_marks : (mode : EdgeMode) (axis : Bool → GridAxis) → (axis true).count ≡ (axis false).count → (axis true).node ≡ (axis false).node
@@ -86,10 +87,10 @@ marks_each told told' e axis [] query = refl
 marks_each told told' e axis (x ∷ xs) query = λ k. e x (query axis) k ∷ marks_each told told' e (suc axis) xs query k
 
 -- two tables that answer a query have the same marks, whatever their values and their settings, where each axis has
-pub marks_alike : (g g' : Grid) (query : ℕ → Float) → outcome_of g query ≡ Accepted → outcome_of g' query ≡ Accepted
+pub marks_alike : (g g' : Grid) (query : ℕ → Float) → outcome_of g query ≡ accepted → outcome_of g' query ≡ accepted
     → marks_from 0 g.axes query ≡ marks_from 0 g'.axes query → mark_answer g query ≡ mark_answer g' query
 marks_alike g g' query e e' m =
-    ap (λ (o : Outcome). marks_beside o g.axes query) e ∙ ap (four_of Accepted unmarked) m ∙ sym (ap (λ (o : Outcome). marks_beside o g'.axes query) e')
+    ap (λ (o : Outcome). marks_beside o g.axes query) e ∙ ap (four_of accepted unmarked) m ∙ sym (ap (λ (o : Outcome). marks_beside o g'.axes query) e')
 
 -- held, a coordinate is replaced exactly where it is marked: where it is not, it is used as given; where it is, another number is
 pub unmarked_used : (g : GridAxis) (given : Float) → marks_at g given ≡ unmarked → hold g given ≡ given
@@ -122,7 +123,7 @@ toy_node zero = fin false 0 (pos 0)
 toy_node (suc i) = fin false 3 (pos 0)
 
 abbrev toy : GridAxis
-toy = record { count = 4; loc = λ x. Unplaceable; weights = λ x p. []; derivatives = λ x p. []; node = toy_node }
+toy = record { count = 4; loc = λ x. (Err Unplaceable); weights = λ x p. []; derivatives = λ x p. []; node = toy_node }
 
 abbrev asked : GridAxis → List Marks
 asked g = map (marks_at g) (fin true 1 (pos 0) ∷ fin true 0 (pos 0) ∷ fin false 0 (pos 0) ∷ fin false 3 (pos 0) ∷ fin false 1 (pos 2) ∷ inf false ∷ nan ∷ [])

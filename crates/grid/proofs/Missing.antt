@@ -9,11 +9,15 @@ use native.Mathlib.Omega.{arith}
 use native.Mathlib.Nat.{eq-or-lt_of_le}
 use lib.ListN.{length, get_or}
 use lib.Ieee.{Float, Format, is_nan}
+use Rattle.multicubic.specs.declared.Refusal.{Refusal}
+use Rattle.grid.proofs.Batches.{same_refusal}
+use Rattle.multicubic.specs.declared.Check.{Check}
+use Rattle.multicubic.specs.declared.Check.TheVariants.{NoPlace, NoNumber}
 use Rattle.ieee.proofs.Nan.{lt-numbers}
 use Rattle.multicubic.specs.declared.EdgeMode.{EdgeMode}
 use Rattle.multicubic.specs.declared.EdgeMode.TheVariants.{Cubic, Straight, Held}
-use Rattle.multicubic.specs.declared.Outcome.{Outcome}
-use Rattle.multicubic.specs.declared.Outcome.TheVariants.{Accepted, Refused}
+use Rattle.multicubic.specs.Types.{Outcome, accepted, refusal}
+use Rattle.std.specs.Prelude.{Err}
 use Rattle.multicubic.specs.Grid.{◌then◌}
 use Rattle.multicubic.specs.Place.{Placed, AxisOutcome, refused, placed}
 use Rattle.multicubic.proofs.Passed.{then_accepted}
@@ -51,8 +55,8 @@ module _ (g : GridAxis) (n : Numbered g) (x : Float) where
   axis-placed p e = sym (n x) ∙ placed-present (g.weights x) (g.derivatives x) (g.loc x) p e
 
   -- 9 exactly where the coordinate is no number, 8 exactly where it is one
-  pub axis-number : (number : ℕ) → outcome g x ≡ refused number → number ≡ cond (is_nan x) 9 8
-  axis-number number e = refused-by (g.weights x) (g.derivatives x) (g.loc x) number e ∙ ap (λ (b : Bool). cond b 9 8) (n x)
+  pub axis-number : (check : Check) → outcome g x ≡ refused check → check ≡ cond (is_nan x) NoNumber NoPlace
+  axis-number check e = refused-by (g.weights x) (g.derivatives x) (g.loc x) check e ∙ ap (λ (b : Bool). cond b NoNumber NoPlace) (n x)
 
 numbered-at : (gs : List GridAxis) → All Numbered gs → (k : ℕ) → k < length gs → Numbered (get_or gs k no_axis)
 numbered-at [] n k h = absurd (omega arith)
@@ -62,10 +66,10 @@ numbered-at (g ∷ gs) n (suc k) h = numbered-at gs n.1 k (omega arith)
 -- ---- a query, its axes counted from s
 module _ (s : ℕ) (gs : List GridAxis) (query : ℕ → Float) (n : All Numbered gs) where
   -- the number of its refusal is told by the coordinate on the lowest axis that refuses
-  pub which-number : (number a : ℕ) → find s gs query ≡ refused_at number a → number ≡ cond (is_nan (query a)) 9 8
-  which-number number a e =
-      let low = find-lowest s gs query number a e in
-      axis-number (get_or gs (a - s) no_axis) (numbered-at gs n (a - s) (let f = low.from in let i = low.inside in omega arith)) (query a) number low.fails
+  pub which-number : (check : Check) (a : ℕ) → find s gs query ≡ refused_at check a → check ≡ cond (is_nan (query a)) NoNumber NoPlace
+  which-number check a e =
+      let low = find-lowest s gs query check a e in
+      axis-number (get_or gs (a - s) no_axis) (numbered-at gs n (a - s) (let f = low.from in let i = low.inside in omega arith)) (query a) check low.fails
 
 -- where it has its places, every coordinate on the axes is a number
 pub placed_numbers : (s : ℕ) (gs : List GridAxis) (query : ℕ → Float) → All Numbered gs → (ps : List Placed) → find s gs query ≡ places ps
@@ -87,10 +91,10 @@ placed_numbers s (g ∷ gs) query n ps e k l h = go (outcome g (query s)) refl (
 -- ---- the calls on a grid of such axes: what is answered has a number on every axis, and past the checks a refusal is 9 exactly where its query
 -- has none on the axis that it names
 module _ (g : Grid) (n : All Numbered g.axes) where
-  pub answered-numbers : (query : ℕ → Float) → outcome_of g query ≡ Accepted → (k : ℕ) → k < length g.axes → is_nan (query k) ≡ false
+  pub answered-numbers : (query : ℕ → Float) → outcome_of g query ≡ accepted → (k : ℕ) → k < length g.axes → is_nan (query k) ≡ false
   answered-numbers query e = go (find 0 g.axes query) refl (then_accepted g.checked (found_outcome 0 (find 0 g.axes query)) e).1
     where
-      go : (r : Found) → find 0 g.axes query ≡ r → found_outcome 0 r ≡ Accepted → (k : ℕ) → k < length g.axes → is_nan (query k) ≡ false
+      go : (r : Found) → find 0 g.axes query ≡ r → found_outcome 0 r ≡ accepted → (k : ℕ) → k < length g.axes → is_nan (query k) ≡ false
       go (refused_at m a) q e k h = absurd (let y : ◌≡◌ {A = ℕ} 0 1 = cc in omega arith)
       go (places ps) q e k h = placed_numbers 0 g.axes query n ps q k (omega arith) (omega arith)
 
@@ -99,21 +103,22 @@ module _ (g : Grid) (n : All Numbered g.axes) where
       → (k : ℕ) → k < length g.axes → is_nan (query_at c queries i k) ≡ false
   batch-numbers c queries i p k h = placed_numbers 0 g.axes (query_at c queries i) n p.0 p.1 k (omega arith) (omega arith)
 
-  pub refused-number : (query : ℕ → Float) (number q a : ℕ) → g.checked ≡ Accepted → outcome_of g query ≡ Refused number q a → number ≡ cond (is_nan (query a)) 9 8
-  refused-number query number q a ok e = go (find 0 g.axes query) refl (sym (ap (λ (o : Outcome). o then found_outcome 0 (find 0 g.axes query)) ok) ∙ e)
+  pub refused-number : (query : ℕ → Float) (check : Check) (q a : ℕ) → g.checked ≡ accepted → outcome_of g query ≡ Err (refusal check q a) → check ≡ cond (is_nan (query a)) NoNumber NoPlace
+  refused-number query check q a ok e = go (find 0 g.axes query) refl (sym (ap (λ (o : Outcome). o then found_outcome 0 (find 0 g.axes query)) ok) ∙ e)
     where
-      go : (r : Found) → find 0 g.axes query ≡ r → found_outcome 0 r ≡ Refused number q a → number ≡ cond (is_nan (query a)) 9 8
+      go : (r : Found) → find 0 g.axes query ≡ r → found_outcome 0 r ≡ Err (refusal check q a) → check ≡ cond (is_nan (query a)) NoNumber NoPlace
       go (refused_at m b) f e =
-          let k : m ≡ number = cc in
-          let z : b ≡ a = cc in
-          which-number 0 g.axes query n number a (f ∙ (λ i. refused_at (k i) (z i)))
+          let t = same_refusal e in
+          let k : m ≡ check = ap (λ (by : Refusal). by.check) t in
+          let z : b ≡ a = ap (λ (by : Refusal). by.axis) t in
+          which-number 0 g.axes query n check a (f ∙ (λ i. refused_at (k i) (z i)))
       go (places ps) f e = absurd (let y : ◌≡◌ {A = ℕ} 0 1 = cc in omega arith)
 
-  module _ (f : Format) (queries buffer : List Float) (number j a : ℕ) where
-    pub interp-number : value_checks f g queries buffer ≡ Accepted → interp_outcome f g queries buffer ≡ Refused number j a
-        → number ≡ cond (is_nan (query_at (length buffer) queries j a)) 9 8
-    interp-number ok e = which-number 0 g.axes (query_at (length buffer) queries j) n number a ((interp-lowest f g queries buffer ok number j a).0 e).fails
+  module _ (f : Format) (queries buffer : List Float) (check : Check) (j a : ℕ) where
+    pub interp-number : value_checks f g queries buffer ≡ accepted → interp_outcome f g queries buffer ≡ Err (refusal check j a)
+        → check ≡ cond (is_nan (query_at (length buffer) queries j a)) NoNumber NoPlace
+    interp-number ok e = which-number 0 g.axes (query_at (length buffer) queries j) n check a ((interp-lowest f g queries buffer ok check j a).0 e).fails
 
-    pub grad-number : gradient_checks f g queries buffer ≡ Accepted → grad_outcome f g queries buffer ≡ Refused number j a
-        → number ≡ cond (is_nan (query_at (length buffer / g.axis-count) queries j a)) 9 8
-    grad-number ok e = which-number 0 g.axes (query_at (length buffer / g.axis-count) queries j) n number a ((grad-lowest f g queries buffer ok number j a).0 e).fails
+    pub grad-number : gradient_checks f g queries buffer ≡ accepted → grad_outcome f g queries buffer ≡ Err (refusal check j a)
+        → check ≡ cond (is_nan (query_at (length buffer / g.axis-count) queries j a)) NoNumber NoPlace
+    grad-number ok e = which-number 0 g.axes (query_at (length buffer / g.axis-count) queries j) n check a ((grad-lowest f g queries buffer ok check j a).0 e).fails

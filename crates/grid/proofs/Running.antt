@@ -12,11 +12,11 @@ use lib.ListN.{length, get_or, take, drop, set, length-append, length-drop, leng
 use lib.Seq.{ext_get_or, get_or-take, get_or-drop, get_or-append-add, length-take-le}
 use lib.Ieee.{Float, nan, Format}
 use borrow.Author.Tests.{ltb-true, ltb-false}
+use Rattle.multicubic.specs.declared.Refusal.{Refusal}
+use Rattle.multicubic.specs.declared.Check.{Check}
 use Rattle.ieee.specs.Numbers.{zero as nought}
-use Rattle.multicubic.specs.declared.Answer.{Answer}
-use Rattle.multicubic.specs.declared.Answer.TheVariants as Ans
-use Rattle.multicubic.specs.declared.Outcome.{Outcome}
-use Rattle.multicubic.specs.declared.Outcome.TheVariants.{Accepted, Refused}
+use Rattle.multicubic.specs.Types.{Answer, Outcome, accepted, refusal}
+use Rattle.std.specs.Prelude.{Err, Ok}
 use Rattle.multicubic.specs.Answers.{answer_outcome}
 use Rattle.multicubic.specs.Place.{Placed}
 use Rattle.grid.specs.declared.Quantity.{Quantity}
@@ -35,17 +35,17 @@ module _ (found : ℕ → Found) (write : ℕ → List Placed → List Float →
   outcome-placed : (ps : List Placed) → found i ≡ places ps → outcome_from found i (c - i) ≡ outcome_from found (i + 1) (c - (i + 1))
   outcome-placed ps e = rw (left, e, add-one) refl
 
-  outcome-refused : (k a : ℕ) → found i ≡ refused_at k a → outcome_from found i (c - i) ≡ Refused k i a
+  outcome-refused : (k : Check) (a : ℕ) → found i ≡ refused_at k a → outcome_from found i (c - i) ≡ Err (refusal k i a)
   outcome-refused k a e = rw (left, e) refl
 
   run-placed : (ps : List Placed) (b : List Float) → found i ≡ places ps → run_from found write i (c - i) b ≡ run_from found write (i + 1) (c - (i + 1)) (write i ps b)
   run-placed ps b e = rw (left, e, add-one) refl
 
-  run-refused : (k a : ℕ) (b : List Float) → found i ≡ refused_at k a → run_from found write i (c - i) b ≡ b
+  run-refused : (k : Check) (a : ℕ) (b : List Float) → found i ≡ refused_at k a → run_from found write i (c - i) b ≡ b
   run-refused k a b e = rw (left, e) refl
 
 module _ (found : ℕ → Found) (write : ℕ → List Placed → List Float → List Float) (c i : ℕ) (e : i ≡ c) where
-  outcome-done : outcome_from found i (c - i) ≡ Accepted
+  outcome-done : outcome_from found i (c - i) ≡ accepted
   outcome-done = let z : c - i ≡ 0 = omega arith in rw z refl
 
   run-done : (b : List Float) → run_from found write i (c - i) b ≡ b
@@ -68,11 +68,11 @@ module _ {f : Format} {gs : List GridAxis} {vals queries : List Float} {quantity
   abbrev write : ℕ → List Placed → List Float → List Float
   write = put_quantity f (counts_of gs) vals quantity
 
-  pub filling-done : i ≡ c → (Accepted ≡ outcome_from asked 0 c) × (out ≡ run_from asked write 0 c before)
+  pub filling-done : i ≡ c → (accepted ≡ outcome_from asked 0 c) × (out ≡ run_from asked write 0 c before)
   filling-done e = (sym (s.outcome-left ∙ outcome-done asked write c i e), sym (s.run-left ∙ run-done asked write c i e out))
 
   module _ (h : i < c) {answer : Answer} (a : answer ≡ answer_to f gs vals quantity i (asked i)) where
-    pub filling-turn : {v : Float} → answer ≡ Ans.Value v → Filling f gs vals queries quantity c before (i + 1) (set out i v)
+    pub filling-turn : {v : Float} → answer ≡ Ok v → Filling f gs vals queries quantity c before (i + 1) (set out i v)
     filling-turn {v} e =
         let w = answer-value f gs vals quantity i (asked i) v (sym e ∙ a) in
         record {
@@ -81,11 +81,11 @@ module _ {f : Format} {gs : List GridAxis} {vals queries : List Float} {quantity
           run-left = s.run-left ∙ run-placed asked write c i h w.0 out w.1 ∙ ap (λ (x : Float). run_from asked write (i + 1) (c - (i + 1)) (set out i x)) (sym w.2);
         }
 
-    pub filling-refused : {k q x : ℕ} → answer ≡ Ans.Refused k q x → (answer_outcome answer ≡ outcome_from asked 0 c) × (out ≡ run_from asked write 0 c before)
-    filling-refused {k} {q} {x} e =
-        let w = answer-refused f gs vals quantity i (asked i) k q x (sym e ∙ a) in (
-          ap answer_outcome e ∙ w.1 ∙ sym (s.outcome-left ∙ outcome-refused asked write c i h k x w.0),
-          sym (s.run-left ∙ run-refused asked write c i h k x out w.0),
+    pub filling-refused : {by : Refusal} → answer ≡ Err by → (answer_outcome answer ≡ outcome_from asked 0 c) × (out ≡ run_from asked write 0 c before)
+    filling-refused {by} e =
+        let w = answer-refused f gs vals quantity i (asked i) by (sym e ∙ a) in (
+          ap answer_outcome e ∙ ap Err w.1 ∙ sym (s.outcome-left ∙ outcome-refused asked write c i h by.check by.axis w.0),
+          sym (s.run-left ∙ run-refused asked write c i h by.check by.axis out w.0),
         )
 
 -- ---- a part of the buffer that was lent
@@ -173,15 +173,15 @@ module _ (found : ℕ → Found) (c : ℕ) where
   placeable = go (outcome_from found 0 c) refl
     where
       go : (o : Outcome) → outcome_from found 0 c ≡ o → (i : ℕ) → i < answered_before o c → PlacedAt found i
-      go Accepted e i h = accepted-all found c e i h
-      go (Refused number j a) e i h = (refused-lowest found c number j a e).before i h
+      go (Ok _) e i h = accepted-all found c e i h
+      go (Err r) e i h = (refused-lowest found c r.check r.query r.axis e).before i h
 
   stop-within : answered_before (outcome_from found 0 c) c ≤ c
   stop-within = go (outcome_from found 0 c) refl
     where
       go : (o : Outcome) → outcome_from found 0 c ≡ o → answered_before o c ≤ c
-      go Accepted e = omega arith
-      go (Refused number j a) e = let l = (refused-lowest found c number j a e).inside in omega arith
+      go (Ok _) e = omega arith
+      go (Err r) e = let l = (refused-lowest found c r.check r.query r.axis e).inside in omega arith
 
 module _ (f : Format) (gs : List GridAxis) (vals queries : List Float) (d c : ℕ) (before : List Float) (size : length before ≡ c) where
   abbrev in_column : ℕ → Found
@@ -203,10 +203,10 @@ module _ (f : Format) (gs : List GridAxis) (vals queries : List Float) (d c : �
       kept i h k = go (outcome_from in_column 0 c) refl h
         where
           go : (o : Outcome) → outcome_from in_column 0 c ≡ o → answered_before o c ≤ i → get_or (run_from in_column (put_quantity f (counts_of gs) vals (Component d)) 0 c before) i nan ≡ get_or before i nan
-          go Accepted e l = absurd (omega arith)
-          go (Refused number j a) e l =
-              keeps in_column _ c (length gs) c i i component (put_entry component c (length gs) i (omega arith)) before number j a l
-              (refused-lowest in_column c number j a e).fails
+          go (Ok _) e l = absurd (omega arith)
+          go (Err r) e l =
+              keeps in_column _ c (length gs) c i i component (put_entry component c (length gs) i (omega arith)) before r.check r.query r.axis l
+              (refused-lowest in_column c r.check r.query r.axis e).fails
 
 -- ---- the columns, each filled by the loop above
 -- d of them are filled, and have met the outcome
@@ -255,7 +255,7 @@ default [] d a b h = absurd (omega arith)
 default (x ∷ xs) zero a b h = refl
 default (x ∷ xs) (suc d) a b h = default xs d a b (omega arith)
 
-module _ (f : Format) (g : Grid) (queries before after : List Float) (counted : length g.axes ≡ g.axis-count) (some : 1 ≤ g.axis-count) (checked : gradient_checks f g queries before ≡ Accepted) where
+module _ (f : Format) (g : Grid) (queries before after : List Float) (counted : length g.axes ≡ g.axis-count) (some : 1 ≤ g.axis-count) (checked : gradient_checks f g queries before ≡ accepted) where
   abbrev c : ℕ
   c = length before / g.axis-count
 
@@ -275,12 +275,12 @@ module _ (f : Format) (g : Grid) (queries before after : List Float) (counted : 
             (default (components_of f (grid_counts g) g.vals p.0) d nought nan
             (omega (arith, components-length f (grid_counts g) g.vals p.0 0 p.0, found_length 0 g.axes (query_at c queries i) p.0 p.1, counted))) in
             filled.1 d i h l ∙ same ∙ sym (grad-holds f g queries before checked i d k h counted (λ j m. placeable found c j (omega arith)) p.0 p.1)
-        go Accepted e false t =
+        go (Ok _) e false t =
             absurd (let l : c ≤ i = rw e at (ltb-false i (answered_before (outcome_from found 0 c) c) t) in omega arith)
-        go (Refused number j a) e false t =
+        go (Err r) e false t =
             let l = ltb-false i (answered_before (outcome_from found 0 c) c) t in
-            let m : j ≤ i = rw e at l in
-            filled.2 d i h l k ∙ sym (grad-keeps f g queries before checked i d k h number j a m (refused-lowest found c number j a e).fails)
+            let m : r.query ≤ i = rw e at l in
+            filled.2 d i h l k ∙ sym (grad-keeps f g queries before checked i d k h r.check r.query r.axis m (refused-lowest found c r.check r.query r.axis e).fails)
 
     size : length before ≡ g.axis-count * c
     size = (lengths-checked g.checked g.axis-count c (length queries) (g.axis-count * c) (length before) checked).1

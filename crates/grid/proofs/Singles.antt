@@ -7,11 +7,10 @@ use native.Mathlib.Omega.{arith}
 use lib.ListN.{length, get_or, take, set, length-set}
 use lib.Seq.{length-take-le, take_all, take-suc}
 use lib.Ieee.{Float, nan, Format}
+use Rattle.multicubic.specs.declared.Refusal.{Refusal}
 use Rattle.ieee.specs.Numbers.{zero as nought}
-use Rattle.multicubic.specs.declared.Answer.{Answer}
-use Rattle.multicubic.specs.declared.Answer.TheVariants as Ans
-use Rattle.multicubic.specs.declared.Outcome.{Outcome}
-use Rattle.multicubic.specs.declared.Outcome.TheVariants.{Accepted, Refused}
+use Rattle.multicubic.specs.Types.{Answer, Outcome, accepted, refusal}
+use Rattle.std.specs.Prelude.{Err, Ok}
 use Rattle.multicubic.specs.Answers.{Says, answer_outcome, value_in, answered}
 use Rattle.multicubic.specs.Place.{Placed}
 use Rattle.multicubic.proofs.Said.{answer-says}
@@ -33,10 +32,10 @@ found_single gs x = ap (find 0 gs) (λ i axis. get_or x (here axis i) nan)
 
 -- ---- the value
 module _ (f : Format) (g : Grid) (x : List Float) where
-  pub value-refused : (checked : Outcome) (v : Float) {number query axis : ℕ} → checked ≡ g.checked → checked ≡ Refused number query axis → answered checked v ≡ value_answer f g (at x)
-  value-refused checked v {number} {query} {axis} e r = let t : g.checked ≡ Refused number query axis = sym e ∙ r in rw (r, t) refl
+  pub value-refused : (checked : Outcome) (v : Float) {by : Refusal} → checked ≡ g.checked → checked ≡ Err by → answered checked v ≡ value_answer f g (at x)
+  value-refused checked v {by} e r = let t : g.checked ≡ Err by = sym e ∙ r in rw (r, t) refl
 
-  pub value-single : g.checked ≡ Accepted → answer_to f g.axes g.vals Value 0 (found_at g.axes 1 x 0) ≡ value_answer f g (at x)
+  pub value-single : g.checked ≡ accepted → answer_to f g.axes g.vals Value 0 (found_at g.axes 1 x 0) ≡ value_answer f g (at x)
   value-single e = rw e (ap (answer_to f g.axes g.vals Value 0) (found_single g.axes x))
 
   -- an answer that is so says it
@@ -45,19 +44,19 @@ module _ (f : Format) (g : Grid) (x : List Float) where
   value-says e = answer-says (outcome_of g (at x)) (found_value f (grid_counts g) g.vals (find 0 g.axes (at x))) e
 
   -- ---- the gradient, from what the axes give
-  pub gradient-refused : (number query axis : ℕ) → g.checked ≡ Refused number query axis → (g.checked ≡ outcome_of g (at x)) × (four_of (Refused number query axis) nought [] ≡ gradient_answer f g (at x))
-  gradient-refused number query axis e = (rw e refl, rw e refl)
+  pub gradient-refused : (by : Refusal) → g.checked ≡ Err by → (g.checked ≡ outcome_of g (at x)) × (four_of (Err by) nought [] ≡ gradient_answer f g (at x))
+  gradient-refused by e = (rw e refl, rw e refl)
 
-  pub gradient-single : (o : Outcome) (gradient : List Float) → g.checked ≡ Accepted → o ≡ found_outcome 0 (find 0 g.axes (at x)) → gradient ≡ gradient_to f g.axes g.vals (find 0 g.axes (at x)) → (o ≡ outcome_of g (at x)) × (gradient ≡ gradient_answer f g (at x))
+  pub gradient-single : (o : Outcome) (gradient : List Float) → g.checked ≡ accepted → o ≡ found_outcome 0 (find 0 g.axes (at x)) → gradient ≡ gradient_to f g.axes g.vals (find 0 g.axes (at x)) → (o ≡ outcome_of g (at x)) × (gradient ≡ gradient_answer f g (at x))
   gradient-single o gradient e h k = (rw e h, rw e k)
 
 -- ---- component by component: the first d of them, and that there are any
 pub record Grading (f : Format) (gs : List GridAxis) (vals x : List Float) (d : ℕ) (gradient : List Float) : Type 0 where
   pub known : 0 < d → (ps : List Placed) × (find 0 gs (at x) ≡ places ps)
   pub four : length gradient ≡ 4
-  pub gradient-is : gradient ≡ four_of Accepted nought (take d (found_components f (counts_of gs) vals (find 0 gs (at x))))
+  pub gradient-is : gradient ≡ four_of accepted nought (take d (found_components f (counts_of gs) vals (find 0 gs (at x))))
 
-pub grading_none : (f : Format) (gs : List GridAxis) (vals x gradient : List Float) → gradient ≡ four_of Accepted nought [] → Grading f gs vals x 0 gradient
+pub grading_none : (f : Format) (gs : List GridAxis) (vals x gradient : List Float) → gradient ≡ four_of accepted nought [] → Grading f gs vals x 0 gradient
 grading_none f gs vals x gradient e = record { known = λ h. absurd (omega arith); four = ap length e; gradient-is = e }
 
 module _ {n : ℕ} {f : Format} {gs : List GridAxis} {values : ℕ} {vals x : List Float} {d : ℕ} {gradient : List Float} (fit : Fit n gs values) (s : Grading f gs vals x d gradient) where
@@ -67,23 +66,23 @@ module _ {n : ℕ} {f : Format} {gs : List GridAxis} {values : ℕ} {vals x : Li
   many : (ps : List Placed) → find 0 gs (at x) ≡ places ps → length components ≡ n
   many ps e = rw e (components-length f (counts_of gs) vals ps 0 ps ∙ found_length 0 gs (at x) ps e) ∙ fit.counted
 
-  pub grading-done : d ≡ n → (Accepted ≡ found_outcome 0 (find 0 gs (at x))) × (gradient ≡ gradient_to f gs vals (find 0 gs (at x)))
+  pub grading-done : d ≡ n → (accepted ≡ found_outcome 0 (find 0 gs (at x))) × (gradient ≡ gradient_to f gs vals (find 0 gs (at x)))
   grading-done z =
       let some = fit.some in
       let p = s.known (omega arith) in
-      let all = s.gradient-is ∙ ap (four_of Accepted nought) (take_all d components (omega (arith, many p.0 p.1))) in
+      let all = s.gradient-is ∙ ap (four_of accepted nought) (take_all d components (omega (arith, many p.0 p.1))) in
       (rw p.1 refl, all ∙ rw p.1 refl)
 
   module _ (h : d < n) {answer : Answer} (a : answer ≡ answer_to f gs vals (Component d) 0 (found_at gs 1 x 0)) where
     single : answer ≡ answer_to f gs vals (Component d) 0 (find 0 gs (at x))
     single = a ∙ ap (answer_to f gs vals (Component d) 0) (found_single gs x)
 
-    pub grading-refused : {k q y : ℕ} → answer ≡ Ans.Refused k q y → (answer_outcome answer ≡ found_outcome 0 (find 0 gs (at x))) × (four_of (Refused k q y) nought [] ≡ gradient_to f gs vals (find 0 gs (at x)))
-    grading-refused {k} {q} {y} e =
-        let w = answer-refused f gs vals (Component d) 0 (find 0 gs (at x)) k q y (sym e ∙ single) in
-        (ap answer_outcome e ∙ w.1 ∙ rw w.0 refl, rw w.0 refl)
+    pub grading-refused : {by : Refusal} → answer ≡ Err by → (answer_outcome answer ≡ found_outcome 0 (find 0 gs (at x))) × (four_of (Err by) nought [] ≡ gradient_to f gs vals (find 0 gs (at x)))
+    grading-refused {by} e =
+        let w = answer-refused f gs vals (Component d) 0 (find 0 gs (at x)) by (sym e ∙ single) in
+        (ap answer_outcome e ∙ ap Err w.1 ∙ rw w.0 refl, rw w.0 refl)
 
-    pub grading-turn : {v : Float} → answer ≡ Ans.Value v → Grading f gs vals x (d + 1) (set gradient d v)
+    pub grading-turn : {v : Float} → answer ≡ Ok v → Grading f gs vals x (d + 1) (set gradient d v)
     grading-turn {v} e =
         let few = fit.few in
         let w = answer-value f gs vals (Component d) 0 (find 0 gs (at x)) v (sym e ∙ single) in

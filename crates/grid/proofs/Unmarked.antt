@@ -6,8 +6,8 @@ use mathlib.Core.List.{List, [], ◌∷◌, map}
 use Prim.Native.Nat.{ℕ, suc, ◌<◌}
 use lib.Dec.{T}
 use lib.Ieee.{Float, Format, eq}
-use Rattle.multicubic.specs.declared.Outcome.{Outcome}
-use Rattle.multicubic.specs.declared.Outcome.TheVariants.{Accepted, Refused}
+use Rattle.multicubic.specs.Types.{Outcome, accepted}
+use Rattle.std.specs.Prelude.{Err, Ok}
 use Rattle.multicubic.specs.declared.Marks.{Marks}
 use Rattle.multicubic.specs.Place.{unmarked}
 use Rattle.multicubic.specs.Internal.{four_unmarked}
@@ -44,12 +44,12 @@ each f query axis (g ∷ gs) [] ok at = absurd at
 each f query axis (g ∷ gs) (i ∷ is) ok at = λ k. node-unmarked f g ok.0 i at.0 (query axis) at.1 k ∷ each f query (suc axis) gs is ok.1 at.2 k
 
 four : (outcome : Outcome) (gs : List GridAxis) → four_of outcome unmarked (none gs) ≡ four_unmarked
-four (Refused k q a) gs = refl
-four Accepted [] = refl
-four Accepted (a ∷ []) = refl
-four Accepted (a ∷ b ∷ []) = refl
-four Accepted (a ∷ b ∷ c ∷ []) = refl
-four Accepted (a ∷ b ∷ c ∷ d ∷ gs) = refl
+four (Err r) gs = refl
+four (Ok _) [] = refl
+four (Ok _) (a ∷ []) = refl
+four (Ok _) (a ∷ b ∷ []) = refl
+four (Ok _) (a ∷ b ∷ c ∷ []) = refl
+four (Ok _) (a ∷ b ∷ c ∷ d ∷ gs) = refl
 
 pub nodes_unmarked : (f : Format) (g : Grid) (query : ℕ → Float) (is : List ℕ) → All (InOrder f) g.axes → AtIndex 0 g.axes is query → mark_answer g query ≡ four_unmarked
 nodes_unmarked f g query is ok at = ap (four_of (outcome_of g query) unmarked) (each f query 0 g.axes is ok at) ∙ four (outcome_of g query) g.axes

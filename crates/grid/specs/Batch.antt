@@ -1,8 +1,9 @@
 -- Section 7, batches: from the caller's buffer on, each query in turn puts its answer into what the ones before it left.
 use Rattle.std.specs.Prelude.{ℕ, zero, suc, ◌+◌, ◌*◌, ◌/◌, not, ◌||◌, List, [], ◌∷◌, ltb, eqb, length, get_or, set, Float}
 use Rattle.std.specs.Float.{nan, Format}
-use Rattle.multicubic.specs.declared.Outcome.{Outcome}
-use Rattle.multicubic.specs.declared.Outcome.TheVariants.{Accepted, Refused}
+use Rattle.multicubic.specs.declared.Check.TheVariants.{BatchLength}
+use Rattle.multicubic.specs.Types.{Outcome, accepted, refusal}
+use Rattle.std.specs.Prelude.{Err, Ok}
 use Rattle.multicubic.specs.Grid.{refuse, ◌then◌}
 use Rattle.multicubic.specs.Place.{Placed}
 use Rattle.grid.specs.Query.{GridAxis, Grid, Found, cases, grid_counts, find, value_of, components_of}
@@ -17,22 +18,22 @@ found_at gs c queries i = find 0 gs (query_at c queries i)
 
 -- check 7: more than 1,048,576 queries, or a wrong buffer length
 abbrev pub check_batch : ℕ → ℕ → ℕ → ℕ → ℕ → Outcome
-check_batch n c queries entries buffer = refuse (ltb 1048576 c || not (eqb queries (n * c)) || not (eqb buffer entries)) 7
+check_batch n c queries entries buffer = refuse (ltb 1048576 c || not (eqb queries (n * c)) || not (eqb buffer entries)) BatchLength
 
 -- the outcome of `left` queries from i on: the refusal of the lowest that is refused, at its lowest such axis
 abbrev pub outcome_from : (ℕ → Found) → ℕ → ℕ → Outcome
-outcome_from found i zero = Accepted
-outcome_from found i (suc left) = cases (found i) (λ number axis. Refused number i axis) (λ ps. outcome_from found (suc i) left)
+outcome_from found i zero = accepted
+outcome_from found i (suc left) = cases (found i) (λ check axis. Err (refusal check i axis)) (λ ps. outcome_from found (suc i) left)
 
 -- the buffer after them: write puts a query's answer into it
 abbrev pub run_from : (ℕ → Found) → (ℕ → List Placed → List Float → List Float) → ℕ → ℕ → List Float → List Float
 run_from found write i zero buffer = buffer
-run_from found write i (suc left) buffer = cases (found i) (λ number axis. buffer) (λ ps. run_from found write (suc i) left (write i ps buffer))
+run_from found write i (suc left) buffer = cases (found i) (λ check axis. buffer) (λ ps. run_from found write (suc i) left (write i ps buffer))
 
 -- refused by a check of the grid, or by 7, nothing is written
 abbrev pub buffer_of : Outcome → List Float → List Float → List Float
-buffer_of (Refused number query axis) before after = before
-buffer_of Accepted before after = after
+buffer_of (Err r) before after = before
+buffer_of (Ok _) before after = after
 
 -- `interp`: c is the value buffer's length, and query i's entry is i
 abbrev pub put_value : Format → List ℕ → List Float → ℕ → List Placed → List Float → List Float

@@ -3,13 +3,12 @@
 use Rattle.std.specs.Prelude.{ℕ, ◌+◌, ◌-◌, ◌*◌, ◌≤◌, ◌<◌, ◌≡◌, Bool, false, cond, ◌||◌, List, [], ◌∷◌, eqb, length, get_or, set, Float}
 use Rattle.std.specs.Float.{nan, Format}
 use Rattle.ieee.specs.Numbers.{zero as nought}
-use Rattle.multicubic.specs.declared.Answer.{Answer}
+use Rattle.multicubic.specs.Types.{Answer, Outcome}
+use Rattle.multicubic.specs.declared.LocError.TheVariants.{Unplaceable}
+use Rattle.std.specs.Prelude.{Err, Ok}
 use Rattle.multicubic.specs.declared.EdgeMode.{EdgeMode}
 use Rattle.multicubic.specs.declared.EdgeMode.TheVariants.{Cubic, Straight, Held}
-use Rattle.multicubic.specs.declared.Loc.TheVariants.{Unplaceable}
 use Rattle.multicubic.specs.declared.Marks.{Marks}
-use Rattle.multicubic.specs.declared.Outcome.{Outcome}
-use Rattle.multicubic.specs.declared.Outcome.TheVariants.{Accepted, Refused}
 use Rattle.multicubic.specs.declared.Place.{Place}
 use Rattle.multicubic.specs.declared.PlaceAnswer.{PlaceAnswer}
 use Rattle.multicubic.specs.Answers.{answered}
@@ -22,7 +21,7 @@ use Rattle.grid.specs.Batch.{found_at}
 -- ---- a query
 -- past the axes
 abbrev pub no_axis : GridAxis
-no_axis = record { count = 0; loc = λ x. Unplaceable; weights = λ x p. []; derivatives = λ x p. []; node = λ i. nan }
+no_axis = record { count = 0; loc = λ x. (Err Unplaceable); weights = λ x p. []; derivatives = λ x p. []; node = λ i. nan }
 
 -- what is told of query `number`, by the axes alone
 abbrev pub Located : ℕ → List GridAxis → (ℕ → Float) → PlaceAnswer → Type 0
@@ -63,7 +62,7 @@ quantity_at f counts vals (Component d) ps = get_or (components_of f counts vals
 
 -- query i's answer to it
 abbrev pub answer_to : Format → List GridAxis → List Float → Quantity → ℕ → Found → Answer
-answer_to f gs vals quantity i found = answered (found_outcome i found) (cases found (λ number axis. nought) (quantity_at f (counts_of gs) vals quantity))
+answer_to f gs vals quantity i found = answered (found_outcome i found) (cases found (λ check axis. nought) (quantity_at f (counts_of gs) vals quantity))
 
 -- the gradient's four numbers, by the axes alone
 abbrev pub gradient_to : Format → List GridAxis → List Float → Found → List Float
@@ -76,8 +75,8 @@ put_quantity f counts vals quantity i ps buffer = set buffer i (quantity_at f co
 
 -- how many queries have their answer
 abbrev pub answered_before : Outcome → ℕ → ℕ
-answered_before (Refused number query axis) c = query
-answered_before Accepted c = c
+answered_before (Err r) c = r.query
+answered_before (Ok _) c = c
 
 -- component d of query i
 abbrev pub component_in : Format → List GridAxis → List Float → ℕ → List Float → ℕ → ℕ → Float

@@ -4,15 +4,14 @@ use Rattle.std.specs.Prelude.{ℕ, suc, ◌-◌, Bool, false, true, cond, ◌||�
 use Rattle.std.specs.Float.{nan, Format}
 use Rattle.std.specs.Float.Ieee.{lt}
 use Rattle.ieee.specs.Numbers.{zero}
-use Rattle.multicubic.specs.declared.Outcome.{Outcome}
-use Rattle.multicubic.specs.declared.Outcome.TheVariants.{Accepted, Refused}
-use Rattle.multicubic.specs.declared.Answer.{Answer}
+use Rattle.multicubic.specs.declared.Check.{Check}
+use Rattle.multicubic.specs.Types.{Answer, Loc, Outcome, accepted, refusal}
+use Rattle.std.specs.Prelude.{Err, Ok}
 use Rattle.multicubic.specs.declared.EdgeMode.{EdgeMode}
 use Rattle.multicubic.specs.declared.EdgeMode.TheVariants.{Cubic, Straight, Held}
 use Rattle.multicubic.specs.Answers.{carried, answered}
 use Rattle.multicubic.specs.declared.Marks.{Marks}
 use Rattle.multicubic.specs.declared.Place.{Place}
-use Rattle.multicubic.specs.declared.Loc.{Loc}
 use Rattle.multicubic.specs.Grid.{◌then◌}
 use Rattle.multicubic.specs.Place.{nowhere, unmarked, Placed, AxisOutcome, refused, placed, outcome_at}
 use Rattle.reduction.specs.Value.{strides_of, block, reduce_of}
@@ -63,18 +62,18 @@ edge_axis Held axis = held_axis (axis false)
 abbrev pub counts_of : List GridAxis → List ℕ
 counts_of gs = map (λ (g : GridAxis). g.count) gs
 
--- what the axes give for a query: a place on each, or the lowest axis that refuses it, behind the number of that refusal
+-- what the axes give for a query: a place on each, or the lowest axis that refuses it, behind the check that refuses it
 pub data Found : Type 0 where
-  refused_at : ℕ → ℕ → Found
+  refused_at : Check → ℕ → Found
   places : List Placed → Found
 
-abbrev pub cases : {A : Type 0} → Found → (ℕ → ℕ → A) → (List Placed → A) → A
-cases (refused_at number axis) unanswered answered = unanswered number axis
+abbrev pub cases : {A : Type 0} → Found → (Check → ℕ → A) → (List Placed → A) → A
+cases (refused_at check axis) unanswered answered = unanswered check axis
 cases (places ps) unanswered answered = answered ps
 
 abbrev pub located : ℕ → AxisOutcome → Found → Found
-located axis (refused number) later = refused_at number axis
-located axis (placed p) (refused_at number later) = refused_at number later
+located axis (refused check) later = refused_at check axis
+located axis (placed p) (refused_at check later) = refused_at check later
 located axis (placed p) (places ps) = places (p ∷ ps)
 
 -- from an axis on; the query gives a coordinate for each axis
@@ -97,7 +96,7 @@ value_of f counts vals ps = reduce_of f (rows_of ps) (block_of counts vals ps)
 
 -- at what is found; +0 where the query is refused
 abbrev pub found_value : Format → List ℕ → List Float → Found → Float
-found_value f counts vals found = cases found (λ number axis. zero) (value_of f counts vals)
+found_value f counts vals found = cases found (λ check axis. zero) (value_of f counts vals)
 
 -- component d for each axis d: its row replaced by its derivative weights
 unfoldable pub component_at : Format → List ℕ → List Float → List Placed → ℕ → Placed → Float
@@ -111,7 +110,7 @@ abbrev pub components_of : Format → List ℕ → List Float → List Placed �
 components_of f counts vals ps = components_from f counts vals ps 0 ps
 
 abbrev pub found_components : Format → List ℕ → List Float → Found → List Float
-found_components f counts vals found = cases found (λ number axis. []) (components_of f counts vals)
+found_components f counts vals found = cases found (λ check axis. []) (components_of f counts vals)
 
 -- What a grid is to its queries: the outcome of its own checks, its axis count, its axes and its values.
 pub record Grid : Type 0 where
@@ -125,7 +124,7 @@ grid_counts g = counts_of g.axes
 
 -- the refusal of a query's lowest axis that refuses it, 9 or 8
 abbrev pub found_outcome : ℕ → Found → Outcome
-found_outcome query found = cases found (λ number axis. Refused number query axis) (λ ps. Accepted)
+found_outcome query found = cases found (λ check axis. Err (refusal check query axis)) (λ ps. accepted)
 
 -- a single query's coordinate on an axis
 abbrev pub at : List Float → ℕ → Float
@@ -145,8 +144,8 @@ value_answer f g query = answered (outcome_of g query) (found_value f (grid_coun
 
 -- the first four of some, with others in place of what is missing; none of them on refusal
 abbrev pub four_of : {A : Type 0} → Outcome → A → List A → List A
-four_of (Refused number query axis) other xs = take 4 (other ∷ other ∷ other ∷ other ∷ [])
-four_of Accepted other xs = take 4 (xs ++ (other ∷ other ∷ other ∷ other ∷ []))
+four_of (Err r) other xs = take 4 (other ∷ other ∷ other ∷ other ∷ [])
+four_of (Ok _) other xs = take 4 (xs ++ (other ∷ other ∷ other ∷ other ∷ []))
 
 -- the gradient's four numbers: +0 past the axis count, all +0 on refusal
 abbrev pub gradient_answer : Format → Grid → (ℕ → Float) → List Float
@@ -157,7 +156,7 @@ abbrev pub places_of : List Placed → List Place
 places_of ps = map (λ (p : Placed). p.place) ps
 
 abbrev pub four_places : Outcome → Found → List Place
-four_places outcome found = four_of outcome nowhere (cases found (λ number axis. []) places_of)
+four_places outcome found = four_of outcome nowhere (cases found (λ check axis. []) places_of)
 
 abbrev pub place_answer : Grid → (ℕ → Float) → List Place
 place_answer g query = four_places (outcome_of g query) (find 0 g.axes query)

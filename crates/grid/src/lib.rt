@@ -2,12 +2,14 @@
 #![tactic(auto)]
 
 ghost use Rattle.std.specs.Prelude.{◌≡◌, ◌*◌, ◌/◌, ◌≤◌};
-ghost use Rattle.multicubic.specs.declared.Outcome.TheVariants.{Accepted};
+ghost use Rattle.multicubic.specs.declared.Check.TheVariants.{BatchLength};
+ghost use Rattle.multicubic.specs.Types.{accepted, refusal};
+ghost use Rattle.std.specs.Prelude.{Err};
 ghost use Rattle.multicubic.specs.Grid.{◌then◌};
 ghost use Rattle.grid.specs.Batch.{check_batch};
 ghost use Rattle.grid.specs.Internal.{is_component};
 
-use multicubic::Outcome;
+use multicubic::{Check, Outcome};
 
 // What is asked of a query: its value, or component d of its gradient.
 #[derive(Clone, Copy)]
@@ -27,13 +29,9 @@ pub fn is_component(quantity: Quantity, axis: usize) -> bool
 }
 
 fn refused_batch() -> Outcome
-    ensures { result ≡ Outcome.Refused 7 0 0 }
+    ensures { result ≡ Err (refusal BatchLength 0 0) }
 {
-    Outcome::Refused {
-        number: 7,
-        query: 0,
-        axis: 0,
-    }
+    Err(Check::BatchLength.at(0, 0))
 }
 
 // Check 7: the count of queries, the lengths of both buffers.
@@ -57,18 +55,16 @@ fn check_batch(
     if buffer != entries {
         return refused_batch();
     }
-    Outcome::Accepted
+    Ok(())
 }
 
 // The grid's checks, then check 7 for values.
 pub fn check_values(checked: Outcome, axis_count: usize, queries: usize, buffer: usize) -> Outcome
-    requires { checked ≡ Accepted → axis_count ≤ 4 }
+    requires { checked ≡ accepted → axis_count ≤ 4 }
     ensures { result ≡ (checked then check_batch axis_count buffer queries buffer buffer) }
 {
-    match checked {
-        Outcome::Refused { .. } => checked,
-        Outcome::Accepted => check_batch(axis_count, buffer, queries, buffer, buffer),
-    }
+    checked?;
+    check_batch(axis_count, buffer, queries, buffer, buffer)
 }
 
 // The same for gradients: as many queries as the axis count divides the buffer into.
@@ -78,15 +74,11 @@ pub fn check_gradients(
     queries: usize,
     buffer: usize,
 ) -> Outcome
-    requires { checked ≡ Accepted → (1 ≤ axis_count) × (axis_count ≤ 4) }
+    requires { checked ≡ accepted → (1 ≤ axis_count) × (axis_count ≤ 4) }
     ensures { result ≡ (checked then check_batch axis_count (buffer / axis_count) queries (axis_count * (buffer / axis_count)) buffer) }
 {
-    match checked {
-        Outcome::Refused { .. } => checked,
-        Outcome::Accepted => {
-            let count = buffer / axis_count;
-            let entries = axis_count * count;
-            check_batch(axis_count, count, queries, entries, buffer)
-        }
-    }
+    checked?;
+    let count = buffer / axis_count;
+    let entries = axis_count * count;
+    check_batch(axis_count, count, queries, entries, buffer)
 }

@@ -5,20 +5,19 @@
 ghost use Rattle.std.specs.Prelude.{◌≡◌, length};
 ghost use Rattle.std.specs.Float.{binary64};
 ghost use Rattle.multicubic.specs.Answers.{Says, answer_outcome, value_in};
-ghost use Rattle.multicubic.specs.Same.{as_answer};
 ghost use Rattle.grid.specs.Query.{outcome_of, at, place_answer, value_answer, value_carried, gradient_answer, mark_answer};
 ghost use Rattle.grid.specs.Batch.{interp_outcome, interp_buffer, grad_outcome, grad_buffer};
 ghost use Rattle.regular_query.specs.Grid.{checks_of as regular_checks, grid_of as regular_of};
 ghost use Rattle.rectilinear_query.specs.Grid.{checks_of as rectilinear_checks, grid_of as rectilinear_of};
 ghost use Rattle.grids.specs.Kept.{kept_regular, kept_rectilinear};
 
-use multicubic::{Axis, EdgeMode, MarkedAnswer, MarkedGradient, MarkedPlaces, Outcome};
+use multicubic::{Answer, Axis, EdgeMode, GradientAnswer, Marked, Outcome, PlaceAnswer};
 
 // A regular grid.
 #[derive(Clone, Copy)]
 pub struct MulticubicRegular<'a> {
     pub axis_count: usize,
-    pub axes: [Axis; 4],
+    pub axes: [Axis<f64>; 4],
     pub vals: &'a [f64],
     pub mode: EdgeMode,
 }
@@ -34,12 +33,12 @@ pub struct MulticubicRectilinear<'a, 'b> {
 }
 
 // Keeps what it is given, and judges nothing.
-pub fn keep_regular<'a>(
+pub fn keep_regular(
     axis_count: usize,
-    axes: [Axis; 4],
-    vals: &'a [f64],
+    axes: [Axis<f64>; 4],
+    vals: &[f64],
     mode: EdgeMode,
-) -> MulticubicRegular<'a>
+) -> MulticubicRegular<'_>
     ensures { result ≡ record { axis_count = axis_count; axes = axes; vals = vals.entry; mode = mode } }
 {
     MulticubicRegular {
@@ -51,7 +50,7 @@ pub fn keep_regular<'a>(
 }
 
 // The verdict of `regular::new` on the grid.
-pub fn regular_new<'a>(g: MulticubicRegular<'a>) -> Outcome
+pub fn regular_new(g: MulticubicRegular<'_>) -> Outcome
     ensures value { result ≡ regular_checks g.entry.axis_count g.entry.axes (length g.entry.vals.now) }
     ensures says { Says result (regular_checks g.entry.axis_count g.entry.axes (length g.entry.vals.now)) }
 {
@@ -59,7 +58,7 @@ pub fn regular_new<'a>(g: MulticubicRegular<'a>) -> Outcome
 }
 
 // The place of a query on the grid, in its mode.
-pub fn regular_get_loc<'a>(g: MulticubicRegular<'a>, x: [f64; 4]) -> MarkedPlaces
+pub fn regular_get_loc(g: MulticubicRegular<'_>, x: [f64; 4]) -> Marked<PlaceAnswer>
     ensures outcome_value { result.answer.outcome ≡ outcome_of (kept_regular binary64 g.entry) (at x) }
     ensures places_value { result.answer.places ≡ place_answer (kept_regular binary64 g.entry) (at x) }
     ensures marks_value { result.marks ≡ mark_answer (kept_regular binary64 g.entry) (at x) }
@@ -69,17 +68,17 @@ pub fn regular_get_loc<'a>(g: MulticubicRegular<'a>, x: [f64; 4]) -> MarkedPlace
 }
 
 // The value at a query, or the refusal. Of a value that is a NaN the contract says that it is one, and leaves its payload open.
-pub fn regular_interp_one<'a>(g: MulticubicRegular<'a>, x: [f64; 4]) -> MarkedAnswer
-    ensures answer_value { as_answer result.answer ≡ value_answer binary64 (kept_regular binary64 g.entry) (at x) }
+pub fn regular_interp_one(g: MulticubicRegular<'_>, x: [f64; 4]) -> Marked<Answer<f64>>
+    ensures answer_value { result.answer ≡ value_answer binary64 (kept_regular binary64 g.entry) (at x) }
     ensures marks_value { result.marks ≡ mark_answer (kept_regular binary64 g.entry) (at x) }
-    ensures says { Says (answer_outcome (as_answer result.answer)) (outcome_of (kept_regular binary64 g.entry) (at x)) }
-    ensures answer_value_2 { value_in (as_answer result.answer) ≡ value_carried binary64 (kept_regular binary64 g.entry) (at x) }
+    ensures says { Says (answer_outcome result.answer) (outcome_of (kept_regular binary64 g.entry) (at x)) }
+    ensures answer_value_2 { value_in result.answer ≡ value_carried binary64 (kept_regular binary64 g.entry) (at x) }
 {
     regular::interp_one(g.axis_count, g.axes, g.vals, g.mode, x)
 }
 
 // The gradient at a query, or the refusal. Of a component that is a NaN the contract says that it is one, and leaves its payload open.
-pub fn regular_interp_one_grad<'a>(g: MulticubicRegular<'a>, x: [f64; 4]) -> MarkedGradient
+pub fn regular_interp_one_grad(g: MulticubicRegular<'_>, x: [f64; 4]) -> Marked<GradientAnswer<f64>>
     ensures outcome_value { result.answer.outcome ≡ outcome_of (kept_regular binary64 g.entry) (at x) }
     ensures gradient_value { result.answer.gradient ≡ gradient_answer binary64 (kept_regular binary64 g.entry) (at x) }
     ensures marks_value { result.marks ≡ mark_answer (kept_regular binary64 g.entry) (at x) }
@@ -89,11 +88,7 @@ pub fn regular_interp_one_grad<'a>(g: MulticubicRegular<'a>, x: [f64; 4]) -> Mar
 }
 
 // The value of every query. Of a value that is a NaN the contract says that it is one, and leaves its payload open.
-pub fn regular_interp<'a, 'b, 'c>(
-    g: MulticubicRegular<'a>,
-    queries: &'b [f64],
-    out: &'c mut [f64],
-) -> Outcome
+pub fn regular_interp(g: MulticubicRegular<'_>, queries: &[f64], out: &mut [f64]) -> Outcome
     ensures value { result ≡ interp_outcome binary64 (kept_regular binary64 g.entry) queries.now out.old }
     ensures out_after { out.new ≡ interp_buffer binary64 (kept_regular binary64 g.entry) queries.now out.old }
     ensures says { Says result (interp_outcome binary64 (kept_regular binary64 g.entry) queries.now out.old) }
@@ -102,11 +97,7 @@ pub fn regular_interp<'a, 'b, 'c>(
 }
 
 // The gradient of every query. Of a component that is a NaN the contract says that it is one, and leaves its payload open.
-pub fn regular_interp_grad<'a, 'b, 'c>(
-    g: MulticubicRegular<'a>,
-    queries: &'b [f64],
-    out: &'c mut [f64],
-) -> Outcome
+pub fn regular_interp_grad(g: MulticubicRegular<'_>, queries: &[f64], out: &mut [f64]) -> Outcome
     ensures value { result ≡ grad_outcome binary64 (kept_regular binary64 g.entry) queries.now out.old }
     ensures out_after { out.new ≡ grad_buffer binary64 (kept_regular binary64 g.entry) queries.now out.old }
     ensures says { Says result (grad_outcome binary64 (kept_regular binary64 g.entry) queries.now out.old) }
@@ -118,15 +109,15 @@ pub fn regular_interp_grad<'a, 'b, 'c>(
 // leaves its payload open.
 pub fn ask_regular(
     axis_count: usize,
-    axes: [Axis; 4],
+    axes: [Axis<f64>; 4],
     vals: &[f64],
     mode: EdgeMode,
     x: [f64; 4],
-) -> MarkedAnswer
-    ensures answer_value { as_answer result.answer ≡ value_answer binary64 (regular_of binary64 axis_count axes vals.now mode) (at x) }
+) -> Marked<Answer<f64>>
+    ensures answer_value { result.answer ≡ value_answer binary64 (regular_of binary64 axis_count axes vals.now mode) (at x) }
     ensures marks_value { result.marks ≡ mark_answer (regular_of binary64 axis_count axes vals.now mode) (at x) }
-    ensures says { Says (answer_outcome (as_answer result.answer)) (outcome_of (regular_of binary64 axis_count axes vals.now mode) (at x)) }
-    ensures answer_value_2 { value_in (as_answer result.answer) ≡ value_carried binary64 (regular_of binary64 axis_count axes vals.now mode) (at x) }
+    ensures says { Says (answer_outcome result.answer) (outcome_of (regular_of binary64 axis_count axes vals.now mode) (at x)) }
+    ensures answer_value_2 { value_in result.answer ≡ value_carried binary64 (regular_of binary64 axis_count axes vals.now mode) (at x) }
 {
     regular_interp_one(keep_regular(axis_count, axes, vals, mode), x)
 }
@@ -151,7 +142,7 @@ pub fn keep_rectilinear<'a, 'b>(
 }
 
 // The verdict of `rectilinear::new` on the grid.
-pub fn rectilinear_new<'a, 'b>(g: MulticubicRectilinear<'a, 'b>) -> Outcome
+pub fn rectilinear_new(g: MulticubicRectilinear<'_, '_>) -> Outcome
     ensures value { result ≡ rectilinear_checks g.entry.axis_count g.entry.counts g.entry.axes.now (length g.entry.vals.now) }
     ensures says { Says result (rectilinear_checks g.entry.axis_count g.entry.counts g.entry.axes.now (length g.entry.vals.now)) }
 {
@@ -159,7 +150,7 @@ pub fn rectilinear_new<'a, 'b>(g: MulticubicRectilinear<'a, 'b>) -> Outcome
 }
 
 // The place of a query on the grid, in its mode.
-pub fn rectilinear_get_loc<'a, 'b>(g: MulticubicRectilinear<'a, 'b>, x: [f64; 4]) -> MarkedPlaces
+pub fn rectilinear_get_loc(g: MulticubicRectilinear<'_, '_>, x: [f64; 4]) -> Marked<PlaceAnswer>
     ensures outcome_value { result.answer.outcome ≡ outcome_of (kept_rectilinear binary64 g.entry) (at x) }
     ensures places_value { result.answer.places ≡ place_answer (kept_rectilinear binary64 g.entry) (at x) }
     ensures marks_value { result.marks ≡ mark_answer (kept_rectilinear binary64 g.entry) (at x) }
@@ -169,20 +160,20 @@ pub fn rectilinear_get_loc<'a, 'b>(g: MulticubicRectilinear<'a, 'b>, x: [f64; 4]
 }
 
 // The value at a query, or the refusal. Of a value that is a NaN the contract says that it is one, and leaves its payload open.
-pub fn rectilinear_interp_one<'a, 'b>(g: MulticubicRectilinear<'a, 'b>, x: [f64; 4]) -> MarkedAnswer
-    ensures answer_value { as_answer result.answer ≡ value_answer binary64 (kept_rectilinear binary64 g.entry) (at x) }
+pub fn rectilinear_interp_one(g: MulticubicRectilinear<'_, '_>, x: [f64; 4]) -> Marked<Answer<f64>>
+    ensures answer_value { result.answer ≡ value_answer binary64 (kept_rectilinear binary64 g.entry) (at x) }
     ensures marks_value { result.marks ≡ mark_answer (kept_rectilinear binary64 g.entry) (at x) }
-    ensures says { Says (answer_outcome (as_answer result.answer)) (outcome_of (kept_rectilinear binary64 g.entry) (at x)) }
-    ensures answer_value_2 { value_in (as_answer result.answer) ≡ value_carried binary64 (kept_rectilinear binary64 g.entry) (at x) }
+    ensures says { Says (answer_outcome result.answer) (outcome_of (kept_rectilinear binary64 g.entry) (at x)) }
+    ensures answer_value_2 { value_in result.answer ≡ value_carried binary64 (kept_rectilinear binary64 g.entry) (at x) }
 {
     rectilinear::interp_one(g.axis_count, g.counts, g.axes, g.vals, g.mode, x)
 }
 
 // The gradient at a query, or the refusal. Of a component that is a NaN the contract says that it is one, and leaves its payload open.
-pub fn rectilinear_interp_one_grad<'a, 'b>(
-    g: MulticubicRectilinear<'a, 'b>,
+pub fn rectilinear_interp_one_grad(
+    g: MulticubicRectilinear<'_, '_>,
     x: [f64; 4],
-) -> MarkedGradient
+) -> Marked<GradientAnswer<f64>>
     ensures outcome_value { result.answer.outcome ≡ outcome_of (kept_rectilinear binary64 g.entry) (at x) }
     ensures gradient_value { result.answer.gradient ≡ gradient_answer binary64 (kept_rectilinear binary64 g.entry) (at x) }
     ensures marks_value { result.marks ≡ mark_answer (kept_rectilinear binary64 g.entry) (at x) }
@@ -192,10 +183,10 @@ pub fn rectilinear_interp_one_grad<'a, 'b>(
 }
 
 // The value of every query. Of a value that is a NaN the contract says that it is one, and leaves its payload open.
-pub fn rectilinear_interp<'a, 'b, 'c, 'd>(
-    g: MulticubicRectilinear<'a, 'b>,
-    queries: &'c [f64],
-    out: &'d mut [f64],
+pub fn rectilinear_interp(
+    g: MulticubicRectilinear<'_, '_>,
+    queries: &[f64],
+    out: &mut [f64],
 ) -> Outcome
     ensures value { result ≡ interp_outcome binary64 (kept_rectilinear binary64 g.entry) queries.now out.old }
     ensures out_after { out.new ≡ interp_buffer binary64 (kept_rectilinear binary64 g.entry) queries.now out.old }
@@ -205,10 +196,10 @@ pub fn rectilinear_interp<'a, 'b, 'c, 'd>(
 }
 
 // The gradient of every query. Of a component that is a NaN the contract says that it is one, and leaves its payload open.
-pub fn rectilinear_interp_grad<'a, 'b, 'c, 'd>(
-    g: MulticubicRectilinear<'a, 'b>,
-    queries: &'c [f64],
-    out: &'d mut [f64],
+pub fn rectilinear_interp_grad(
+    g: MulticubicRectilinear<'_, '_>,
+    queries: &[f64],
+    out: &mut [f64],
 ) -> Outcome
     ensures value { result ≡ grad_outcome binary64 (kept_rectilinear binary64 g.entry) queries.now out.old }
     ensures out_after { out.new ≡ grad_buffer binary64 (kept_rectilinear binary64 g.entry) queries.now out.old }
@@ -226,11 +217,11 @@ pub fn ask_rectilinear(
     vals: &[f64],
     mode: EdgeMode,
     x: [f64; 4],
-) -> MarkedAnswer
-    ensures answer_value { as_answer result.answer ≡ value_answer binary64 (rectilinear_of binary64 axis_count counts axes.now vals.now mode) (at x) }
+) -> Marked<Answer<f64>>
+    ensures answer_value { result.answer ≡ value_answer binary64 (rectilinear_of binary64 axis_count counts axes.now vals.now mode) (at x) }
     ensures marks_value { result.marks ≡ mark_answer (rectilinear_of binary64 axis_count counts axes.now vals.now mode) (at x) }
-    ensures says { Says (answer_outcome (as_answer result.answer)) (outcome_of (rectilinear_of binary64 axis_count counts axes.now vals.now mode) (at x)) }
-    ensures answer_value_2 { value_in (as_answer result.answer) ≡ value_carried binary64 (rectilinear_of binary64 axis_count counts axes.now vals.now mode) (at x) }
+    ensures says { Says (answer_outcome result.answer) (outcome_of (rectilinear_of binary64 axis_count counts axes.now vals.now mode) (at x)) }
+    ensures answer_value_2 { value_in result.answer ≡ value_carried binary64 (rectilinear_of binary64 axis_count counts axes.now vals.now mode) (at x) }
 {
     rectilinear_interp_one(keep_rectilinear(axis_count, counts, axes, vals, mode), x)
 }

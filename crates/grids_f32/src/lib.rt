@@ -11,23 +11,21 @@ ghost use Rattle.grid.specs.Batch.{interp_outcome, interp_buffer, grad_outcome, 
 ghost use Rattle.regular_query.specs.Grid.{checks_of as regular_checks, grid_of as regular_of};
 ghost use Rattle.rectilinear_query.specs.Grid.{checks_of as rectilinear_checks, grid_of as rectilinear_of};
 ghost use Rattle.grids_f32.specs.Kept.{kept_regular, kept_rectilinear};
-ghost use Rattle.multicubic_f32.specs.Same.{as_answer, as_axes};
 
-use multicubic::{EdgeMode, MarkedPlaces, Outcome};
-use multicubic_f32::{AxisF32, MarkedAnswerF32, MarkedGradientF32};
+use multicubic::{Answer, Axis, EdgeMode, GradientAnswer, Marked, Outcome, PlaceAnswer};
 
 // A regular grid.
 #[derive(Clone, Copy)]
-pub struct MulticubicRegularF32<'a> {
+pub struct MulticubicRegular<'a> {
     pub axis_count: usize,
-    pub axes: [AxisF32; 4],
+    pub axes: [Axis<f32>; 4],
     pub vals: &'a [f32],
     pub mode: EdgeMode,
 }
 
 // A rectilinear grid; its axes are joined one after the other.
 #[derive(Clone, Copy)]
-pub struct MulticubicRectilinearF32<'a, 'b> {
+pub struct MulticubicRectilinear<'a, 'b> {
     pub axis_count: usize,
     pub counts: [usize; 4],
     pub axes: &'a [f32],
@@ -36,15 +34,15 @@ pub struct MulticubicRectilinearF32<'a, 'b> {
 }
 
 // Keeps what it is given, and judges nothing.
-pub fn keep_regular<'a>(
+pub fn keep_regular(
     axis_count: usize,
-    axes: [AxisF32; 4],
-    vals: &'a [f32],
+    axes: [Axis<f32>; 4],
+    vals: &[f32],
     mode: EdgeMode,
-) -> MulticubicRegularF32<'a>
+) -> MulticubicRegular<'_>
     ensures { result ≡ record { axis_count = axis_count; axes = axes; vals = vals.entry; mode = mode } }
 {
-    MulticubicRegularF32 {
+    MulticubicRegular {
         axis_count,
         axes,
         vals,
@@ -53,15 +51,15 @@ pub fn keep_regular<'a>(
 }
 
 // The verdict of `regular_f32::new` on the grid.
-pub fn regular_new<'a>(g: MulticubicRegularF32<'a>) -> Outcome
-    ensures value { result ≡ regular_checks g.entry.axis_count (as_axes g.entry.axes) (length g.entry.vals.now) }
-    ensures says { Says result (regular_checks g.entry.axis_count (as_axes g.entry.axes) (length g.entry.vals.now)) }
+pub fn regular_new(g: MulticubicRegular<'_>) -> Outcome
+    ensures value { result ≡ regular_checks g.entry.axis_count g.entry.axes (length g.entry.vals.now) }
+    ensures says { Says result (regular_checks g.entry.axis_count g.entry.axes (length g.entry.vals.now)) }
 {
     regular_f32::new(g.axis_count, g.axes, g.vals)
 }
 
 // The place of a query on the grid, in its mode.
-pub fn regular_get_loc<'a>(g: MulticubicRegularF32<'a>, x: [f32; 4]) -> MarkedPlaces
+pub fn regular_get_loc(g: MulticubicRegular<'_>, x: [f32; 4]) -> Marked<PlaceAnswer>
     ensures outcome_value { result.answer.outcome ≡ outcome_of (kept_regular binary32 g.entry) (at x) }
     ensures places_value { result.answer.places ≡ place_answer (kept_regular binary32 g.entry) (at x) }
     ensures marks_value { result.marks ≡ mark_answer (kept_regular binary32 g.entry) (at x) }
@@ -71,17 +69,17 @@ pub fn regular_get_loc<'a>(g: MulticubicRegularF32<'a>, x: [f32; 4]) -> MarkedPl
 }
 
 // The value at a query, or the refusal. Of a value that is a NaN the contract says that it is one, and leaves its payload open.
-pub fn regular_interp_one<'a>(g: MulticubicRegularF32<'a>, x: [f32; 4]) -> MarkedAnswerF32
-    ensures answer_value { as_answer result.answer ≡ value_answer binary32 (kept_regular binary32 g.entry) (at x) }
+pub fn regular_interp_one(g: MulticubicRegular<'_>, x: [f32; 4]) -> Marked<Answer<f32>>
+    ensures answer_value { result.answer ≡ value_answer binary32 (kept_regular binary32 g.entry) (at x) }
     ensures marks_value { result.marks ≡ mark_answer (kept_regular binary32 g.entry) (at x) }
-    ensures says { Says (answer_outcome (as_answer result.answer)) (outcome_of (kept_regular binary32 g.entry) (at x)) }
-    ensures answer_value_2 { value_in (as_answer result.answer) ≡ value_carried binary32 (kept_regular binary32 g.entry) (at x) }
+    ensures says { Says (answer_outcome result.answer) (outcome_of (kept_regular binary32 g.entry) (at x)) }
+    ensures answer_value_2 { value_in result.answer ≡ value_carried binary32 (kept_regular binary32 g.entry) (at x) }
 {
     regular_f32::interp_one(g.axis_count, g.axes, g.vals, g.mode, x)
 }
 
 // The gradient at a query, or the refusal. Of a component that is a NaN the contract says that it is one, and leaves its payload open.
-pub fn regular_interp_one_grad<'a>(g: MulticubicRegularF32<'a>, x: [f32; 4]) -> MarkedGradientF32
+pub fn regular_interp_one_grad(g: MulticubicRegular<'_>, x: [f32; 4]) -> Marked<GradientAnswer<f32>>
     ensures outcome_value { result.answer.outcome ≡ outcome_of (kept_regular binary32 g.entry) (at x) }
     ensures gradient_value { result.answer.gradient ≡ gradient_answer binary32 (kept_regular binary32 g.entry) (at x) }
     ensures marks_value { result.marks ≡ mark_answer (kept_regular binary32 g.entry) (at x) }
@@ -91,11 +89,7 @@ pub fn regular_interp_one_grad<'a>(g: MulticubicRegularF32<'a>, x: [f32; 4]) -> 
 }
 
 // The value of every query. Of a value that is a NaN the contract says that it is one, and leaves its payload open.
-pub fn regular_interp<'a, 'b, 'c>(
-    g: MulticubicRegularF32<'a>,
-    queries: &'b [f32],
-    out: &'c mut [f32],
-) -> Outcome
+pub fn regular_interp(g: MulticubicRegular<'_>, queries: &[f32], out: &mut [f32]) -> Outcome
     ensures value { result ≡ interp_outcome binary32 (kept_regular binary32 g.entry) queries.now out.old }
     ensures out_after { out.new ≡ interp_buffer binary32 (kept_regular binary32 g.entry) queries.now out.old }
     ensures says { Says result (interp_outcome binary32 (kept_regular binary32 g.entry) queries.now out.old) }
@@ -104,11 +98,7 @@ pub fn regular_interp<'a, 'b, 'c>(
 }
 
 // The gradient of every query. Of a component that is a NaN the contract says that it is one, and leaves its payload open.
-pub fn regular_interp_grad<'a, 'b, 'c>(
-    g: MulticubicRegularF32<'a>,
-    queries: &'b [f32],
-    out: &'c mut [f32],
-) -> Outcome
+pub fn regular_interp_grad(g: MulticubicRegular<'_>, queries: &[f32], out: &mut [f32]) -> Outcome
     ensures value { result ≡ grad_outcome binary32 (kept_regular binary32 g.entry) queries.now out.old }
     ensures out_after { out.new ≡ grad_buffer binary32 (kept_regular binary32 g.entry) queries.now out.old }
     ensures says { Says result (grad_outcome binary32 (kept_regular binary32 g.entry) queries.now out.old) }
@@ -120,15 +110,15 @@ pub fn regular_interp_grad<'a, 'b, 'c>(
 // leaves its payload open.
 pub fn ask_regular(
     axis_count: usize,
-    axes: [AxisF32; 4],
+    axes: [Axis<f32>; 4],
     vals: &[f32],
     mode: EdgeMode,
     x: [f32; 4],
-) -> MarkedAnswerF32
-    ensures answer_value { as_answer result.answer ≡ value_answer binary32 (regular_of binary32 axis_count (as_axes axes) vals.now mode) (at x) }
-    ensures marks_value { result.marks ≡ mark_answer (regular_of binary32 axis_count (as_axes axes) vals.now mode) (at x) }
-    ensures says { Says (answer_outcome (as_answer result.answer)) (outcome_of (regular_of binary32 axis_count (as_axes axes) vals.now mode) (at x)) }
-    ensures answer_value_2 { value_in (as_answer result.answer) ≡ value_carried binary32 (regular_of binary32 axis_count (as_axes axes) vals.now mode) (at x) }
+) -> Marked<Answer<f32>>
+    ensures answer_value { result.answer ≡ value_answer binary32 (regular_of binary32 axis_count axes vals.now mode) (at x) }
+    ensures marks_value { result.marks ≡ mark_answer (regular_of binary32 axis_count axes vals.now mode) (at x) }
+    ensures says { Says (answer_outcome result.answer) (outcome_of (regular_of binary32 axis_count axes vals.now mode) (at x)) }
+    ensures answer_value_2 { value_in result.answer ≡ value_carried binary32 (regular_of binary32 axis_count axes vals.now mode) (at x) }
 {
     regular_interp_one(keep_regular(axis_count, axes, vals, mode), x)
 }
@@ -140,10 +130,10 @@ pub fn keep_rectilinear<'a, 'b>(
     axes: &'a [f32],
     vals: &'b [f32],
     mode: EdgeMode,
-) -> MulticubicRectilinearF32<'a, 'b>
+) -> MulticubicRectilinear<'a, 'b>
     ensures { result ≡ record { axis_count = axis_count; counts = counts; axes = axes.entry; vals = vals.entry; mode = mode } }
 {
-    MulticubicRectilinearF32 {
+    MulticubicRectilinear {
         axis_count,
         counts,
         axes,
@@ -153,7 +143,7 @@ pub fn keep_rectilinear<'a, 'b>(
 }
 
 // The verdict of `rectilinear_f32::new` on the grid.
-pub fn rectilinear_new<'a, 'b>(g: MulticubicRectilinearF32<'a, 'b>) -> Outcome
+pub fn rectilinear_new(g: MulticubicRectilinear<'_, '_>) -> Outcome
     ensures value { result ≡ rectilinear_checks g.entry.axis_count g.entry.counts g.entry.axes.now (length g.entry.vals.now) }
     ensures says { Says result (rectilinear_checks g.entry.axis_count g.entry.counts g.entry.axes.now (length g.entry.vals.now)) }
 {
@@ -161,7 +151,7 @@ pub fn rectilinear_new<'a, 'b>(g: MulticubicRectilinearF32<'a, 'b>) -> Outcome
 }
 
 // The place of a query on the grid, in its mode.
-pub fn rectilinear_get_loc<'a, 'b>(g: MulticubicRectilinearF32<'a, 'b>, x: [f32; 4]) -> MarkedPlaces
+pub fn rectilinear_get_loc(g: MulticubicRectilinear<'_, '_>, x: [f32; 4]) -> Marked<PlaceAnswer>
     ensures outcome_value { result.answer.outcome ≡ outcome_of (kept_rectilinear binary32 g.entry) (at x) }
     ensures places_value { result.answer.places ≡ place_answer (kept_rectilinear binary32 g.entry) (at x) }
     ensures marks_value { result.marks ≡ mark_answer (kept_rectilinear binary32 g.entry) (at x) }
@@ -171,23 +161,20 @@ pub fn rectilinear_get_loc<'a, 'b>(g: MulticubicRectilinearF32<'a, 'b>, x: [f32;
 }
 
 // The value at a query, or the refusal. Of a value that is a NaN the contract says that it is one, and leaves its payload open.
-pub fn rectilinear_interp_one<'a, 'b>(
-    g: MulticubicRectilinearF32<'a, 'b>,
-    x: [f32; 4],
-) -> MarkedAnswerF32
-    ensures answer_value { as_answer result.answer ≡ value_answer binary32 (kept_rectilinear binary32 g.entry) (at x) }
+pub fn rectilinear_interp_one(g: MulticubicRectilinear<'_, '_>, x: [f32; 4]) -> Marked<Answer<f32>>
+    ensures answer_value { result.answer ≡ value_answer binary32 (kept_rectilinear binary32 g.entry) (at x) }
     ensures marks_value { result.marks ≡ mark_answer (kept_rectilinear binary32 g.entry) (at x) }
-    ensures says { Says (answer_outcome (as_answer result.answer)) (outcome_of (kept_rectilinear binary32 g.entry) (at x)) }
-    ensures answer_value_2 { value_in (as_answer result.answer) ≡ value_carried binary32 (kept_rectilinear binary32 g.entry) (at x) }
+    ensures says { Says (answer_outcome result.answer) (outcome_of (kept_rectilinear binary32 g.entry) (at x)) }
+    ensures answer_value_2 { value_in result.answer ≡ value_carried binary32 (kept_rectilinear binary32 g.entry) (at x) }
 {
     rectilinear_f32::interp_one(g.axis_count, g.counts, g.axes, g.vals, g.mode, x)
 }
 
 // The gradient at a query, or the refusal. Of a component that is a NaN the contract says that it is one, and leaves its payload open.
-pub fn rectilinear_interp_one_grad<'a, 'b>(
-    g: MulticubicRectilinearF32<'a, 'b>,
+pub fn rectilinear_interp_one_grad(
+    g: MulticubicRectilinear<'_, '_>,
     x: [f32; 4],
-) -> MarkedGradientF32
+) -> Marked<GradientAnswer<f32>>
     ensures outcome_value { result.answer.outcome ≡ outcome_of (kept_rectilinear binary32 g.entry) (at x) }
     ensures gradient_value { result.answer.gradient ≡ gradient_answer binary32 (kept_rectilinear binary32 g.entry) (at x) }
     ensures marks_value { result.marks ≡ mark_answer (kept_rectilinear binary32 g.entry) (at x) }
@@ -197,10 +184,10 @@ pub fn rectilinear_interp_one_grad<'a, 'b>(
 }
 
 // The value of every query. Of a value that is a NaN the contract says that it is one, and leaves its payload open.
-pub fn rectilinear_interp<'a, 'b, 'c, 'd>(
-    g: MulticubicRectilinearF32<'a, 'b>,
-    queries: &'c [f32],
-    out: &'d mut [f32],
+pub fn rectilinear_interp(
+    g: MulticubicRectilinear<'_, '_>,
+    queries: &[f32],
+    out: &mut [f32],
 ) -> Outcome
     ensures value { result ≡ interp_outcome binary32 (kept_rectilinear binary32 g.entry) queries.now out.old }
     ensures out_after { out.new ≡ interp_buffer binary32 (kept_rectilinear binary32 g.entry) queries.now out.old }
@@ -210,10 +197,10 @@ pub fn rectilinear_interp<'a, 'b, 'c, 'd>(
 }
 
 // The gradient of every query. Of a component that is a NaN the contract says that it is one, and leaves its payload open.
-pub fn rectilinear_interp_grad<'a, 'b, 'c, 'd>(
-    g: MulticubicRectilinearF32<'a, 'b>,
-    queries: &'c [f32],
-    out: &'d mut [f32],
+pub fn rectilinear_interp_grad(
+    g: MulticubicRectilinear<'_, '_>,
+    queries: &[f32],
+    out: &mut [f32],
 ) -> Outcome
     ensures value { result ≡ grad_outcome binary32 (kept_rectilinear binary32 g.entry) queries.now out.old }
     ensures out_after { out.new ≡ grad_buffer binary32 (kept_rectilinear binary32 g.entry) queries.now out.old }
@@ -231,11 +218,11 @@ pub fn ask_rectilinear(
     vals: &[f32],
     mode: EdgeMode,
     x: [f32; 4],
-) -> MarkedAnswerF32
-    ensures answer_value { as_answer result.answer ≡ value_answer binary32 (rectilinear_of binary32 axis_count counts axes.now vals.now mode) (at x) }
+) -> Marked<Answer<f32>>
+    ensures answer_value { result.answer ≡ value_answer binary32 (rectilinear_of binary32 axis_count counts axes.now vals.now mode) (at x) }
     ensures marks_value { result.marks ≡ mark_answer (rectilinear_of binary32 axis_count counts axes.now vals.now mode) (at x) }
-    ensures says { Says (answer_outcome (as_answer result.answer)) (outcome_of (rectilinear_of binary32 axis_count counts axes.now vals.now mode) (at x)) }
-    ensures answer_value_2 { value_in (as_answer result.answer) ≡ value_carried binary32 (rectilinear_of binary32 axis_count counts axes.now vals.now mode) (at x) }
+    ensures says { Says (answer_outcome result.answer) (outcome_of (rectilinear_of binary32 axis_count counts axes.now vals.now mode) (at x)) }
+    ensures answer_value_2 { value_in result.answer ≡ value_carried binary32 (rectilinear_of binary32 axis_count counts axes.now vals.now mode) (at x) }
 {
     rectilinear_interp_one(keep_rectilinear(axis_count, counts, axes, vals, mode), x)
 }

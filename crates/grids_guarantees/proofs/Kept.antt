@@ -1,8 +1,6 @@
 -- The structs of both kinds and widths have what is owed: an f32 axis is read as one of the definitions'.
-use mathlib.Core.Path.{ap, ◌∙◌}
-use lib.ListN.{length, length-map}
+use lib.ListN.{length}
 use lib.Ieee.{binary32, binary64}
-use Rattle.multicubic_f32.specs.Same.{as_axis, as_axes}
 use Rattle.guarantees.proofs.Typing.{typed}
 use Rattle.rectilinear_guarantees.proofs.Relied.{rising, gaps}
 use Rattle.grids_guarantees.specs.Kept.{OwedRegular, OwedRegularF32, HeldRegular, HeldRegularF32, OwedRectilinear, OwedRectilinearF32, HeldRectilinear, HeldRectilinearF32, RisesRectilinear, RisesRectilinearF32}
@@ -12,14 +10,13 @@ pub regular : OwedRegular
 regular g g' s = Owed.regular binary64 _ _ _ _ _ _ g.mode g'.mode s.same_count s.same_four s.long s.held s.held'
 
 pub regular-f32 : OwedRegularF32
-regular-f32 g g' s =
-    Owed.regular binary32 _ _ _ _ _ _ g.mode g'.mode s.same_count (ap as_axes s.same_four) (length-map g.axes as_axis ∙ s.long) s.held s.held'
+regular-f32 g g' s = Owed.regular binary32 _ _ _ _ _ _ g.mode g'.mode s.same_count s.same_four s.long s.held s.held'
 
 pub held_regular : HeldRegular
 held_regular g holds fit = Owed.held_regular binary64 g.axis_count g.axes g.vals.now g.mode holds fit
 
 pub held_regular_f32 : HeldRegularF32
-held_regular_f32 g holds fit = Owed.held_regular binary32 g.axis_count (as_axes g.axes) g.vals.now g.mode holds fit
+held_regular_f32 g holds fit = Owed.held_regular binary32 g.axis_count g.axes g.vals.now g.mode holds fit
 
 pub rectilinear : OwedRectilinear
 rectilinear g g' s = Owed.rectilinear binary64 _ _ _ _ _ _ _ _ g.mode g'.mode s

@@ -4,7 +4,7 @@ use mathlib.Core.List.{List}
 use Prim.Native.Nat.{ℕ}
 use lib.ListN.{length, take}
 use lib.Ieee.{Float, Format}
-use Rattle.multicubic.specs.declared.Axis.{Axis}
+use Rattle.multicubic.specs.Types.{Axis}
 use Rattle.multicubic.specs.declared.EdgeMode.{EdgeMode}
 use Rattle.multicubic.specs.declared.EdgeMode.TheVariants.{Held}
 use Rattle.grid.specs.Query.{Grid, at, mark_answer}

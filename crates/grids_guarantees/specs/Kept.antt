@@ -2,8 +2,7 @@
 use Rattle.std.specs.Prelude.{◌≡◌, [], take, length}
 use Rattle.std.specs.Float.{binary32, binary64}
 use Rattle.multicubic.specs.declared.EdgeMode.TheVariants.{Held}
-use Rattle.multicubic.specs.declared.Outcome.TheVariants.{Accepted}
-use Rattle.multicubic_f32.specs.Same.{as_axes}
+use Rattle.multicubic.specs.Types.{accepted}
 use Rattle.grid.specs.Nodes.{Fits}
 use Rattle.rectilinear_order.specs.Grid.{axes_of, Rising, GapsAbove}
 use Rattle.regular_query.specs.Grid.{AllPremises as RegularPremises}
@@ -11,8 +10,8 @@ use Rattle.rectilinear_query.specs.Grid.{checks_of, AllPremises as RectilinearPr
 use Rattle.grids.specs.declared.MulticubicRegular.{MulticubicRegular}
 use Rattle.grids.specs.declared.MulticubicRectilinear.{MulticubicRectilinear}
 use Rattle.grids.specs.Kept.{kept_regular, kept_rectilinear}
-use Rattle.grids_f32.specs.declared.MulticubicRegularF32.{MulticubicRegularF32}
-use Rattle.grids_f32.specs.declared.MulticubicRectilinearF32.{MulticubicRectilinearF32}
+use Rattle.grids_f32.specs.declared.MulticubicRegular.{MulticubicRegular as MulticubicRegularF32}
+use Rattle.grids_f32.specs.declared.MulticubicRectilinear.{MulticubicRectilinear as MulticubicRectilinearF32}
 use Rattle.grids_f32.specs.Kept.{kept_regular as kept_regular_f32, kept_rectilinear as kept_rectilinear_f32}
 use Rattle.grids_guarantees.specs.Statements.{OwedKept, HeldKept, Shared}
 
@@ -25,7 +24,7 @@ OwedRegular =
 abbrev pub OwedRegularF32 : Type 0
 OwedRegularF32 =
     (g g' : MulticubicRegularF32) → Shared binary32 g.axis_count g'.axis_count g.axes g'.axes [] [] g.vals.now g'.vals.now
-    → OwedKept binary32 (RegularPremises (take g.axis_count (as_axes g.axes))) (kept_regular_f32 binary32 g) (kept_regular_f32 binary32 g')
+    → OwedKept binary32 (RegularPremises (take g.axis_count g.axes)) (kept_regular_f32 binary32 g) (kept_regular_f32 binary32 g')
 
 abbrev pub HeldRegular : Type 0
 HeldRegular =
@@ -35,7 +34,7 @@ HeldRegular =
 abbrev pub HeldRegularF32 : Type 0
 HeldRegularF32 =
     (g : MulticubicRegularF32) → g.mode ≡ Held → Fits binary32 g.vals.now
-    → HeldKept binary32 (RegularPremises (take g.axis_count (as_axes g.axes))) (kept_regular_f32 binary32 g)
+    → HeldKept binary32 (RegularPremises (take g.axis_count g.axes)) (kept_regular_f32 binary32 g)
 
 -- ---- rectilinear
 abbrev pub OwedRectilinear : Type 0
@@ -63,10 +62,10 @@ HeldRectilinearF32 =
 -- ---- 2.6: where `rectilinear_new` accepts, every axis rises strictly, and no gap is zero
 abbrev pub RisesRectilinear : Type 0
 RisesRectilinear =
-    (g : MulticubicRectilinear) → Fits binary64 g.axes.now → checks_of g.axis_count g.counts g.axes.now (length g.vals.now) ≡ Accepted
+    (g : MulticubicRectilinear) → Fits binary64 g.axes.now → checks_of g.axis_count g.counts g.axes.now (length g.vals.now) ≡ accepted
     → let parts = axes_of (take g.axis_count g.counts) g.axes.now in Rising parts × GapsAbove binary64 parts
 
 abbrev pub RisesRectilinearF32 : Type 0
 RisesRectilinearF32 =
-    (g : MulticubicRectilinearF32) → Fits binary32 g.axes.now → checks_of g.axis_count g.counts g.axes.now (length g.vals.now) ≡ Accepted
+    (g : MulticubicRectilinearF32) → Fits binary32 g.axes.now → checks_of g.axis_count g.counts g.axes.now (length g.vals.now) ≡ accepted
     → let parts = axes_of (take g.axis_count g.counts) g.axes.now in Rising parts × GapsAbove binary32 parts

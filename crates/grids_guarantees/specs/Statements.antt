@@ -3,9 +3,8 @@
 -- typing, and no premise.
 use Rattle.std.specs.Prelude.{ℕ, ◌≡◌, List, length, Float}
 use Rattle.std.specs.Float.{Format}
-use Rattle.multicubic.specs.declared.Answer.{Answer}
+use Rattle.multicubic.specs.Types.{Answer, Outcome}
 use Rattle.multicubic.specs.declared.Marks.{Marks}
-use Rattle.multicubic.specs.declared.Outcome.{Outcome}
 use Rattle.grid.specs.Query.{Grid, at, value_answer, mark_answer}
 use Rattle.grid.specs.Batch.{interp_outcome, interp_buffer}
 use Rattle.grid.specs.Nodes.{Fits}

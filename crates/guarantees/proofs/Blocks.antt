@@ -1,16 +1,15 @@
 -- The statements about blocks hold of what the definitions give, on any two grids. Nothing is asked of what the two buffers held before.
 use mathlib.Core.Path.{◌≡◌, refl, sym, ap, ◌∙◌, subst}
-use mathlib.Core.Logic.{◌⊎◌, inl, inr, ⊎_elim}
+use mathlib.Core.Logic.{inl, inr, ⊎_elim}
 use mathlib.Core.List.{List, [], ◌∷◌, ◌++◌}
 use Prim.Native.Nat.{ℕ, ◌+◌, ◌*◌, ◌/◌, ◌≤◌, ◌<◌}
 use native.Mathlib.Omega.{arith}
 use lib.ListN.{length, get_or, get_or-append}
 use lib.Seq.{get_or-take}
 use lib.Ieee.{Float, nan, Format}
+use Rattle.std.specs.Prelude.{Ok}
 use Rattle.ieee.specs.Numbers.{zero as nought}
-use Rattle.multicubic.specs.declared.Answer.{Answer}
-use Rattle.multicubic.specs.declared.Answer.TheVariants.{Value}
-use Rattle.multicubic.specs.declared.Outcome.{Outcome}
+use Rattle.multicubic.specs.Types.{Answer, Outcome}
 use Rattle.multicubic.specs.Place.{Placed}
 use Rattle.grid.specs.Query.{Grid, grid_counts, components_of, outcome_of, value_answer, gradient_answer}
 use Rattle.grid.specs.Batch.{query_at, interp_buffer, grad_buffer}
@@ -41,7 +40,7 @@ module _ (f : Format) (g g' : Grid) where
     pub block-in-batch : after ≡ interp_buffer f g queries before → after' ≡ interp_buffer f g' queries before' → BlockInBatch f g g' queries before after before' after'
     block-in-batch b b' len i ps h s =
         rw (b, b') (⊎_elim
-        (λ e. inl (answer_found f g (query_at (length before) queries i) ps s.0 s.4 ∙ ap Value (sym e.0), e.1))
+        (λ e. inl (answer_found f g (query_at (length before) queries i) ps s.0 s.4 ∙ ap Ok (sym e.0), e.1))
         (λ e. inr e)
         (same_entries f g g' (both (query_at (length before) queries i) ps s) queries before before' len ps s.5 i h s.4))
 

@@ -2,7 +2,7 @@
 -- earlier queries have passed, so the query's entry is written.
 use mathlib.Core.Path.{◌≡◌, refl, sym, ap, ◌∙◌, subst}
 use mathlib.Core.Bool.{Bool, true, false, not, ◌||◌}
-use mathlib.Core.Logic.{◌⊎◌}
+use mathlib.Core.Logic.{◌⊎◌, inl, inr, ⊎_elim}
 use mathlib.Core.List.{List}
 use Prim.Native.Nat.{ℕ, ◌*◌, ◌<◌}
 use native.Mathlib.Omega.{arith}
@@ -10,10 +10,10 @@ use lib.Dec.{T, ltb, eqb}
 use lib.ListN.{length, get_or}
 use lib.Ieee.{Float, nan, Format, eq}
 use borrow.Author.Tests.{ltb-true, ltb-false}
-use Rattle.multicubic.specs.declared.Answer.{Answer}
-use Rattle.multicubic.specs.declared.Outcome.{Outcome}
-use Rattle.multicubic.specs.declared.Outcome.TheVariants.{Accepted, Refused}
-use Rattle.multicubic.specs.Answers.{number_of, query_of}
+use Rattle.multicubic.specs.Types.{Answer, Outcome, accepted}
+use Rattle.std.specs.Prelude.{Err, Ok}
+use Rattle.multicubic.specs.declared.Check.TheVariants.{BatchLength}
+use Rattle.multicubic.specs.Answers.{check_number, number_of, query_of}
 use Rattle.grid.specs.Query.{Grid, Found, at, value_answer}
 use Rattle.grid.specs.Batch.{query_at, found_at, outcome_from, value_checks, interp_outcome, interp_buffer}
 use Rattle.grid.specs.Edges.{AtClamped}
@@ -48,11 +48,11 @@ module _ (f : Format) (premises : Type 0) (g : Grid) (kind : Supplied f premises
     abbrev seven : Bool
     seven = ltb 1048576 (length before) || not (eqb (length queries) (g.axis-count * length before)) || not (eqb (length before) (length before))
 
-    checked : value_checks f g queries before ≡ Accepted
+    checked : value_checks f g queries before ≡ accepted
     checked = go seven refl
       where
-        go : (fault : Bool) → seven ≡ fault → value_checks f g queries before ≡ Accepted
-        go true e = absurd (not-seven (ap number_of (o ∙ interp-refused f g queries before 7 0 0 (rw (taken, e) refl))))
+        go : (fault : Bool) → seven ≡ fault → value_checks f g queries before ≡ accepted
+        go true e = absurd (not-seven (ap number_of (o ∙ interp-refused f g queries before BatchLength 0 0 (rw (taken, e) refl))))
         go false e = rw (taken, e) refl
 
     -- a query before this one is placed, or the outcome would name one
@@ -63,17 +63,18 @@ module _ (f : Format) (premises : Type 0) (g : Grid) (kind : Supplied f premises
         told = o ∙ interp-answers f g queries before checked
 
         go : (p : Outcome) → outcome_from found 0 (length before) ≡ p → PlacedAt found j
-        go Accepted e = accepted-all found (length before) e j (omega arith)
-        go (Refused number q a) e =
-            let w = refused-lowest found (length before) number q a e in
-            let own = found_number 0 g.axes (query_at (length before) queries q) number a w.fails in
-            let which : (number_of outcome ≡ 8) ⊎ (number_of outcome ≡ 9) = subst (λ (k : ℕ). (k ≡ 8) ⊎ (k ≡ 9)) (sym (ap number_of (told ∙ e))) own in
-            let here : query_of outcome ≡ q = ap query_of (told ∙ e) in
-            branch (ltb j q) refl w which here
+        go (Ok _) e = accepted-all found (length before) e j (omega arith)
+        go (Err by) e =
+            let w = refused-lowest found (length before) by.check by.query by.axis e in
+            let own = found_number 0 g.axes (query_at (length before) queries by.query) by.check by.axis w.fails in
+            let number : number_of outcome ≡ check_number by.check = ap number_of (told ∙ e) in
+            let which : (number_of outcome ≡ 8) ⊎ (number_of outcome ≡ 9) = ⊎_elim (λ z. inl (number ∙ ap check_number z)) (λ z. inr (number ∙ ap check_number z)) own in
+            let here : query_of outcome ≡ by.query = ap query_of (told ∙ e) in
+            branch (ltb j by.query) refl w which here
           where
-            branch : (t : Bool) → ltb j q ≡ t → Lowest found (length before) number q a → (number_of outcome ≡ 8) ⊎ (number_of outcome ≡ 9) → query_of outcome ≡ q → PlacedAt found j
-            branch true t w which here = w.before j (ltb-true j q t)
-            branch false t w which here = absurd (not-Earlier which (let m = ltb-false j q t in omega arith))
+            branch : (t : Bool) → ltb j by.query ≡ t → Lowest found (length before) by.check by.query by.axis → (number_of outcome ≡ 8) ⊎ (number_of outcome ≡ 9) → query_of outcome ≡ by.query → PlacedAt found j
+            branch true t w which here = w.before j (ltb-true j by.query t)
+            branch false t w which here = absurd (not-Earlier which (let m = ltb-false j by.query t in omega arith))
 
   -- a query whose rows are those of a node has the number stored there in its entry
   in-batch : (queries before after : List Float) (outcome : Outcome) → outcome ≡ interp_outcome f g queries before → after ≡ interp_buffer f g queries before → IsAccepted g

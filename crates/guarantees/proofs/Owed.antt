@@ -3,8 +3,7 @@ use mathlib.Core.Path.{◌≡◌}
 use mathlib.Core.List.{List}
 use Prim.Native.Nat.{ℕ}
 use lib.Ieee.{Float, Format}
-use Rattle.multicubic.specs.declared.Answer.{Answer}
-use Rattle.multicubic.specs.declared.Outcome.{Outcome}
+use Rattle.multicubic.specs.Types.{Answer, Outcome}
 use Rattle.grid.specs.Query.{Grid, at, outcome_of, value_answer, gradient_answer}
 use Rattle.grid.specs.Batch.{interp_outcome, interp_buffer, grad_buffer}
 use Rattle.guarantees.specs.Statements.{AnswersOf, BuffersOf, OwedAlone, OwedInBatch}

@@ -1,12 +1,9 @@
 -- Section 8: what is guaranteed of the calls, over a grid of either kind and any format. The functions of the crates above make the calls, and
 -- promise what is owed of each. That the format holds every float lent is typing, and no premise.
-use Rattle.std.specs.Prelude.{ℕ, ◌*◌, ◌+◌, ◌/◌, ◌<◌, ◌≡◌, List, ◌⊎◌, T, length, get_or, Float}
+use Rattle.std.specs.Prelude.{ℕ, ◌*◌, ◌+◌, ◌/◌, ◌<◌, ◌≡◌, List, ◌⊎◌, Ok, T, length, get_or, Float}
 use Rattle.std.specs.Float.{nan, Format}
 use Rattle.std.specs.Float.Ieee.{eq}
-use Rattle.multicubic.specs.declared.Answer.{Answer}
-use Rattle.multicubic.specs.declared.Answer.TheVariants.{Value}
-use Rattle.multicubic.specs.declared.Outcome.{Outcome}
-use Rattle.multicubic.specs.declared.Outcome.TheVariants.{Accepted}
+use Rattle.multicubic.specs.Types.{Answer, Outcome, accepted}
 use Rattle.multicubic.specs.Answers.{number_of, query_of}
 use Rattle.multicubic.specs.Place.{Placed}
 use Rattle.grid.specs.Query.{Grid, places, find, grid_counts, outcome_of, value_answer, gradient_answer}
@@ -16,7 +13,7 @@ use Rattle.grid.specs.Nodes.{AtIndex, stored, FiniteValues, SameBlock}
 
 -- accepted: `new` gives 0
 abbrev pub IsAccepted : Grid → Type 0
-IsAccepted g = g.checked ≡ Accepted
+IsAccepted g = g.checked ≡ accepted
 
 -- ---- nodes
 -- A query at a node of an accepted grid within the premises: those on the values stand here, those on the axes are the kind's own. The setting
@@ -26,13 +23,13 @@ QueryAtNode premises g node query = IsAccepted g × premises × FiniteValues g.v
 
 -- 8.3: its answer is the number stored there, +0 and -0 as one
 abbrev pub NodeRule : Type 0 → Grid → (ℕ → Float) → Answer → Type 0
-NodeRule premises g query answer = (node : List ℕ) → QueryAtNode premises g node query → (v : Float) × (answer ≡ Value v) × T (eq v (stored g node))
+NodeRule premises g query answer = (node : List ℕ) → QueryAtNode premises g node query → (v : Float) × (answer ≡ Ok v) × T (eq v (stored g node))
 
 -- 8.4: two tables on the same axes, each with its own setting, answer it with the same number exactly where they store the same number
 abbrev pub NodeCorollary : Type 0 → Grid → Grid → (ℕ → Float) → Answer → Answer → Type 0
 NodeCorollary premises g g' query answer answer' =
     (node : List ℕ) → QueryAtNode premises g node query → QueryAtNode premises g' node query
-    → (v : Float) × (v' : Float) × (answer ≡ Value v) × (answer' ≡ Value v') × (eq v v' ≡ eq (stored g node) (stored g' node))
+    → (v : Float) × (v' : Float) × (answer ≡ Ok v) × (answer' ≡ Ok v') × (eq v v' ≡ eq (stored g node) (stored g' node))
 
 -- a batch with this outcome came to query i: the number is not 7, nor 8 or 9 with an earlier query
 abbrev pub Reached : Outcome → ℕ → Type 0
@@ -64,7 +61,7 @@ QueryClamped premises g index query = IsAccepted g × premises × FiniteValues g
 
 -- its answer is the number stored there
 abbrev pub HeldEdge : Type 0 → Grid → (ℕ → Float) → Answer → Type 0
-HeldEdge premises g query answer = (index : List ℕ) → QueryClamped premises g index query → (v : Float) × (answer ≡ Value v) × T (eq v (stored g index))
+HeldEdge premises g query answer = (index : List ℕ) → QueryClamped premises g index query → (v : Float) × (answer ≡ Ok v) × T (eq v (stored g index))
 
 abbrev pub HeldInBatch : Type 0 → Grid → List Float → Outcome → List Float → List Float → Type 0
 HeldInBatch premises g = EntryHolds (QueryClamped premises g) g
@@ -79,18 +76,18 @@ SameOnBlock g g' query ps =
 
 -- both answer with the same value, and with the same components; the logic has one NaN
 abbrev pub BlockRule : Grid → Grid → (ℕ → Float) → Answer → Answer → Type 0
-BlockRule g g' query answer answer' = (ps : List Placed) → SameOnBlock g g' query ps → (v : Float) × (answer ≡ Value v) × (answer' ≡ Value v)
+BlockRule g g' query answer answer' = (ps : List Placed) → SameOnBlock g g' query ps → (v : Float) × (answer ≡ Ok v) × (answer' ≡ Ok v)
 
 abbrev pub BlockGradient : Grid → Grid → (ℕ → Float) → Outcome → Outcome → List Float → List Float → Type 0
 BlockGradient g g' query outcome outcome' gradient gradient' =
-    (ps : List Placed) → SameOnBlock g g' query ps → (outcome ≡ Accepted) × (outcome' ≡ Accepted) × (gradient ≡ gradient')
+    (ps : List Placed) → SameOnBlock g g' query ps → (outcome ≡ accepted) × (outcome' ≡ accepted) × (gradient ≡ gradient')
 
 -- after `interp` of the same queries into buffers of one length, its entries hold that answer on both, or keep their contents on both
 abbrev pub BlockInBatch : Format → Grid → Grid → List Float → List Float → List Float → List Float → List Float → Type 0
 BlockInBatch f g g' queries before after before' after' =
     let c = length before in
     c ≡ length before' → (i : ℕ) (ps : List Placed) → i < c → SameOnBlock g g' (query_at c queries i) ps
-    → ((value_answer f g (query_at c queries i) ≡ Value (get_or after i nan)) × (get_or after' i nan ≡ get_or after i nan))
+    → ((value_answer f g (query_at c queries i) ≡ Ok (get_or after i nan)) × (get_or after' i nan ≡ get_or after i nan))
     ⊎ ((get_or after i nan ≡ get_or before i nan) × (get_or after' i nan ≡ get_or before' i nan))
 
 -- so after `interp_grad`: component d of query i of c is entry d * c + i

@@ -2,15 +2,15 @@
 // in regular_guarantees and rectilinear_guarantees.
 #![tactic(auto)]
 
-use multicubic::{MarkedAnswer, MarkedGradient, Outcome};
+use multicubic::{Answer, GradientAnswer, Marked, Outcome};
 
 // What two tables answer to a query.
 #[derive(Clone, Copy)]
-pub struct TwoTables {
-    pub value: MarkedAnswer,
-    pub gradient: MarkedGradient,
-    pub other_value: MarkedAnswer,
-    pub other_gradient: MarkedGradient,
+pub struct TwoTables<T> {
+    pub value: Marked<Answer<T>>,
+    pub gradient: Marked<GradientAnswer<T>>,
+    pub other_value: Marked<Answer<T>>,
+    pub other_gradient: Marked<GradientAnswer<T>>,
 }
 
 // The outcomes of `interp` on two tables.

@@ -2,131 +2,113 @@
 // The batches on a group's queries: what their buffers hold before, what they are to hold, and the comparison.
 #![tactic(auto)]
 
-ghost use Rattle.std.specs.Prelude.{◌≡◌, length};
-
-use harness_batches::{Walk, with_tally};
-use harness_calls::{INTERP, INTERP_GRAD, same_outcome};
+use harness_calls::same_outcome;
 use harness_calls_f32::{call_interp, call_interp_grad, same_float};
-use harness_corpus_f32::GroupF32;
-use harness_words::{ENTRY, Tally};
+use harness_corpus::columns;
+use harness_corpus_f32::Group;
+use harness_words::{Call, Difference, Part, Tally};
 use harness_words_f32::float_of;
+use multicubic::Outcome;
 
-// What an entry of a buffer holds before the call, and its bits: every entry another number.
-fn marker(i: usize) -> u64 {
-    std::num::wrapping_add_u64(0x4040_0000, i as u64)
+// What an entry of a buffer holds before the call: every entry another number.
+fn marker(i: usize) -> f32 {
+    float_of((i as u64).wrapping_add(0x4040_0000))
 }
 
-pub fn marked_words() -> [u64; 256]
-    ensures { 256 ≡ length result }
-{
-    let mut out = [0; 256];
-    let mut i: usize = 0;
-    while i < 256 {
-        out[i] = marker(i);
-        i += 1;
-    }
-    out
-}
-
-fn marked_floats() -> [f32; 256]
-    ensures { 256 ≡ length result }
-{
+pub fn marked() -> [f32; 256] {
     let mut out = [0.0; 256];
-    let mut i: usize = 0;
-    while i < 256 {
-        out[i] = float_of(marker(i));
-        i += 1;
+    for i in 0..256 {
+        out[i] = marker(i);
     }
     out
 }
 
-// Compares entry i of a buffer of columns: its query is its place in its column.
-fn same_entry(
-    t: Tally,
-    call: u64,
-    count: usize,
-    i: usize,
-    expected: &[u64; 256],
-    found: &[f32; 256],
-) -> Tally {
-    let mut r = t;
-    if t.state == 0 {
-        if count != 0 {
-            r.query = (i % count) as u64;
-        }
+// Puts x at a place of a buffer, where there is such a place.
+pub fn put(out: &mut [f32; 256], at: usize, x: f32) {
+    if at < 256 {
+        out[at] = x;
     }
-    if 256 <= i {
-        return r;
-    }
-    same_float(r, call, ENTRY, i as u64, expected[i], found[i])
 }
 
-// Compares the first entries of a buffer of columns.
-fn same_entries(
-    t: Tally,
-    call: u64,
-    count: usize,
-    entries: usize,
-    expected: &[u64; 256],
-    found: &[f32; 256],
-) -> Tally {
-    let mut r = t;
-    let mut i: usize = 0;
-    while i < entries {
-        r = same_entry(r, call, count, i, expected, found);
-        i += 1;
+// The expected gradient of query i, in the columns of the batch.
+pub fn put_gradient(out: &mut [f32; 256], n: usize, count: usize, i: usize, gradient: [f32; 4]) {
+    for d in 0..n.min(4) {
+        put(out, columns(d, count).wrapping_add(i), gradient[d]);
     }
-    r
+}
+
+// Compares the first entries of a buffer of columns: an entry's query is its place in its column.
+fn same_entries(
+    t: &mut Tally,
+    call: Call,
+    count: usize,
+    expected: &[f32],
+    found: &[f32],
+) -> Result<(), Difference> {
+    for (i, (expected, found)) in expected.iter().zip(found).enumerate() {
+        if count != 0 {
+            t.query = (i % count) as u64;
+        }
+        same_float(t, call, Part::Entry, i, *expected, *found)?;
+    }
+    Ok(())
 }
 
 fn run_interp(
-    g: GroupF32,
+    t: &mut Tally,
+    g: Group,
     axes: &[f32],
     vals: &[f32],
     queries: &[f32],
-    w: Walk,
-    expected: &[u64; 256],
-) -> Tally {
-    let mut buffer = marked_floats();
-    let t = w.tally;
+    outcome: Outcome,
+    expected: &[f32; 256],
+) -> Result<(), Difference> {
     let count = g.count;
     if 256 < count {
-        return t;
+        return Ok(());
     }
-    let outcome = call_interp(g, axes, vals, queries, &mut buffer[..count]);
-    let t = same_outcome(t, INTERP, w.number, w.query, w.axis, outcome);
-    same_entries(t, INTERP, count, count, expected, &buffer)
+    let mut buffer = marked();
+    let found = call_interp(g, axes, vals, queries, &mut buffer[..count]);
+    same_outcome(t, Call::Interp, outcome, found)?;
+    same_entries(t, Call::Interp, count, &expected[..count], &buffer[..count])
 }
 
 fn run_interp_grad(
-    g: GroupF32,
+    t: &mut Tally,
+    g: Group,
     axes: &[f32],
     vals: &[f32],
     queries: &[f32],
-    w: Walk,
-    expected: &[u64; 256],
-) -> Tally {
-    let mut buffer = marked_floats();
-    let t = w.tally;
+    outcome: Outcome,
+    expected: &[f32; 256],
+) -> Result<(), Difference> {
     let entries = g.entries;
     if 256 < entries {
-        return t;
+        return Ok(());
     }
-    let outcome = call_interp_grad(g, axes, vals, queries, &mut buffer[..entries]);
-    let t = same_outcome(t, INTERP_GRAD, w.number, w.query, w.axis, outcome);
-    same_entries(t, INTERP_GRAD, g.count, entries, expected, &buffer)
+    let mut buffer = marked();
+    let found = call_interp_grad(g, axes, vals, queries, &mut buffer[..entries]);
+    same_outcome(t, Call::InterpGrad, outcome, found)?;
+    same_entries(
+        t,
+        Call::InterpGrad,
+        g.count,
+        &expected[..entries],
+        &buffer[..entries],
+    )
 }
 
 // Both batches over the same queries.
 pub fn run_batches(
-    g: GroupF32,
+    t: &mut Tally,
+    g: Group,
     axes: &[f32],
     vals: &[f32],
     queries: &[f32],
-    w: Walk,
-    values: &[u64; 256],
-    gradients: &[u64; 256],
-) -> Tally {
-    let t = run_interp(g, axes, vals, queries, w, values);
-    run_interp_grad(g, axes, vals, queries, with_tally(w, t), gradients)
+    outcome: Outcome,
+    values: &[f32; 256],
+    gradients: &[f32; 256],
+) -> Result<(), Difference> {
+    run_interp(t, g, axes, vals, queries, outcome, values)?;
+    run_interp_grad(t, g, axes, vals, queries, outcome, gradients)
 }

@@ -2,156 +2,157 @@
 // The calls under test on a group's grid, of either kind, and the comparison of the parts of an answer.
 #![tactic(auto)]
 
-use harness_calls::{INTERP_ONE, INTERP_ONE_GRAD, same_outcome, same_places};
+use harness_calls::{same_outcome, same_place};
 use harness_corpus::Expected;
-use harness_corpus_f32::GroupF32;
-use harness_words::{COMPONENT, Tally, VALUE, same};
-use harness_words_f32::{bits_of, float_of};
-use multicubic::{MarkedPlaces, Outcome};
-use multicubic_f32::{
-    AnswerF32, GradientAnswerF32, MarkedAnswerF32, MarkedGradientF32, outcome_of,
-};
+use harness_corpus_f32::{Axes, Group};
+use harness_words::{Call, Difference, Part, Tally};
+use harness_words_f32::bits_of;
+use multicubic::{Answer, GradientAnswer, Marked, Outcome, PlaceAnswer, outcome_of};
 
-pub fn call_new(g: GroupF32, axes: &[f32], vals: &[f32]) -> Outcome {
-    let n = g.n;
-    if g.rectilinear {
-        let counts = g.counts;
-        return rectilinear_f32::new(n, counts, axes, vals);
+pub fn call_new(g: Group, axes: &[f32], vals: &[f32]) -> Outcome {
+    match g.axes {
+        Axes::Regular(regular_axes) => regular_f32::new(g.n, regular_axes, vals),
+        Axes::Rectilinear(counts) => rectilinear_f32::new(g.n, counts, axes, vals),
     }
-    let regular_axes = g.axes;
-    regular_f32::new(n, regular_axes, vals)
 }
 
-pub fn call_get_loc(g: GroupF32, axes: &[f32], vals: &[f32], x: [f32; 4]) -> MarkedPlaces {
-    let n = g.n;
-    let mode = g.mode;
-    if g.rectilinear {
-        let counts = g.counts;
-        return rectilinear_f32::get_loc(n, counts, axes, vals, mode, x);
+pub fn call_get_loc(g: Group, axes: &[f32], vals: &[f32], x: [f32; 4]) -> Marked<PlaceAnswer> {
+    match g.axes {
+        Axes::Regular(regular_axes) => regular_f32::get_loc(g.n, regular_axes, vals, g.mode, x),
+        Axes::Rectilinear(counts) => rectilinear_f32::get_loc(g.n, counts, axes, vals, g.mode, x),
     }
-    let regular_axes = g.axes;
-    regular_f32::get_loc(n, regular_axes, vals, mode, x)
 }
 
-pub fn call_interp_one(g: GroupF32, axes: &[f32], vals: &[f32], x: [f32; 4]) -> MarkedAnswerF32 {
-    let n = g.n;
-    let mode = g.mode;
-    if g.rectilinear {
-        let counts = g.counts;
-        return rectilinear_f32::interp_one(n, counts, axes, vals, mode, x);
+pub fn call_interp_one(g: Group, axes: &[f32], vals: &[f32], x: [f32; 4]) -> Marked<Answer<f32>> {
+    match g.axes {
+        Axes::Regular(regular_axes) => regular_f32::interp_one(g.n, regular_axes, vals, g.mode, x),
+        Axes::Rectilinear(counts) => rectilinear_f32::interp_one(
+            g.n, counts, axes, vals, g.mode, x,
+        ),
     }
-    let regular_axes = g.axes;
-    regular_f32::interp_one(n, regular_axes, vals, mode, x)
 }
 
 pub fn call_interp_one_grad(
-    g: GroupF32,
+    g: Group,
     axes: &[f32],
     vals: &[f32],
     x: [f32; 4],
-) -> MarkedGradientF32 {
-    let n = g.n;
-    let mode = g.mode;
-    if g.rectilinear {
-        let counts = g.counts;
-        return rectilinear_f32::interp_one_grad(n, counts, axes, vals, mode, x);
+) -> Marked<GradientAnswer<f32>> {
+    match g.axes {
+        Axes::Regular(regular_axes) => regular_f32::interp_one_grad(
+            g.n,
+            regular_axes,
+            vals,
+            g.mode,
+            x,
+        ),
+        Axes::Rectilinear(counts) => {
+            rectilinear_f32::interp_one_grad(g.n, counts, axes, vals, g.mode, x)
+        }
     }
-    let regular_axes = g.axes;
-    regular_f32::interp_one_grad(n, regular_axes, vals, mode, x)
 }
 
 pub fn call_interp(
-    g: GroupF32,
+    g: Group,
     axes: &[f32],
     vals: &[f32],
     queries: &[f32],
     out: &mut [f32],
 ) -> Outcome {
-    let n = g.n;
-    let mode = g.mode;
-    if g.rectilinear {
-        let counts = g.counts;
-        return rectilinear_batch_f32::interp(n, counts, axes, vals, mode, queries, out);
+    match g.axes {
+        Axes::Regular(regular_axes) => {
+            regular_batch_f32::interp(g.n, regular_axes, vals, g.mode, queries, out)
+        }
+        Axes::Rectilinear(counts) => {
+            rectilinear_batch_f32::interp(g.n, counts, axes, vals, g.mode, queries, out)
+        }
     }
-    let regular_axes = g.axes;
-    regular_batch_f32::interp(n, regular_axes, vals, mode, queries, out)
 }
 
 pub fn call_interp_grad(
-    g: GroupF32,
+    g: Group,
     axes: &[f32],
     vals: &[f32],
     queries: &[f32],
     out: &mut [f32],
 ) -> Outcome {
-    let n = g.n;
-    let mode = g.mode;
-    if g.rectilinear {
-        let counts = g.counts;
-        return rectilinear_batch_f32::interp_grad(n, counts, axes, vals, mode, queries, out);
+    match g.axes {
+        Axes::Regular(regular_axes) => {
+            regular_batch_f32::interp_grad(g.n, regular_axes, vals, g.mode, queries, out)
+        }
+        Axes::Rectilinear(counts) => {
+            rectilinear_batch_f32::interp_grad(g.n, counts, axes, vals, g.mode, queries, out)
+        }
     }
-    let regular_axes = g.axes;
-    regular_batch_f32::interp_grad(n, regular_axes, vals, mode, queries, out)
 }
 
 // Compares bits; a NaN matches any NaN.
-pub fn same_float(t: Tally, call: u64, item: u64, place: u64, expected: u64, found: f32) -> Tally {
-    same(
-        t,
-        call,
-        item,
-        place,
-        bits_of(float_of(expected)),
-        bits_of(found),
-    )
+pub fn same_float(
+    t: &mut Tally,
+    call: Call,
+    part: Part,
+    place: usize,
+    expected: f32,
+    found: f32,
+) -> Result<(), Difference> {
+    t.same(call, part, place, bits_of(expected), bits_of(found))
+}
+
+pub fn same_places(t: &mut Tally, e: Expected<f32>, answer: PlaceAnswer) -> Result<(), Difference> {
+    same_outcome(t, Call::GetLoc, outcome_of(e.value), answer.outcome)?;
+    for axis in 0..4 {
+        same_place(t, axis, e.places[axis], answer.places[axis])?;
+    }
+    Ok(())
 }
 
 // The value of a query, by the call that gave it.
-pub fn same_value_of(t: Tally, call: u64, e: Expected, answer: AnswerF32) -> Tally {
-    let t = same_outcome(t, call, e.number, 0, e.axis, outcome_of(answer));
-    match answer {
-        AnswerF32::Value(x) => same_float(t, call, VALUE, 0, e.value, x),
-        AnswerF32::Refused { .. } => t,
+pub fn same_value(
+    t: &mut Tally,
+    call: Call,
+    expected: Answer<f32>,
+    found: Answer<f32>,
+) -> Result<(), Difference> {
+    same_outcome(t, call, outcome_of(expected), outcome_of(found))?;
+    if let (Ok(expected), Ok(found)) = (expected, found) {
+        same_float(t, call, Part::Value, 0, expected, found)?;
     }
-}
-
-// The value of a query, however it was asked.
-pub fn same_value(t: Tally, e: Expected, answer: AnswerF32) -> Tally {
-    same_value_of(t, INTERP_ONE, e, answer)
+    Ok(())
 }
 
 // The components of its gradient, past the axis count and on refusal too.
-pub fn same_components(t: Tally, call: u64, e: Expected, gradient: [f32; 4]) -> Tally {
-    let expected = e.gradient;
-    let t = same_float(t, call, COMPONENT, 0, expected[0], gradient[0]);
-    let t = same_float(t, call, COMPONENT, 1, expected[1], gradient[1]);
-    let t = same_float(t, call, COMPONENT, 2, expected[2], gradient[2]);
-    same_float(t, call, COMPONENT, 3, expected[3], gradient[3])
+pub fn same_components(
+    t: &mut Tally,
+    call: Call,
+    expected: [f32; 4],
+    found: [f32; 4],
+) -> Result<(), Difference> {
+    for axis in 0..4 {
+        same_float(t, call, Part::Component, axis, expected[axis], found[axis])?;
+    }
+    Ok(())
 }
 
-pub fn same_gradient(t: Tally, e: Expected, answer: GradientAnswerF32) -> Tally {
-    let outcome = answer.outcome;
-    let gradient = answer.gradient;
-    let t = same_outcome(t, INTERP_ONE_GRAD, e.number, 0, e.axis, outcome);
-    same_components(t, INTERP_ONE_GRAD, e, gradient)
+pub fn same_gradient(
+    t: &mut Tally,
+    e: Expected<f32>,
+    answer: GradientAnswer<f32>,
+) -> Result<(), Difference> {
+    same_outcome(t, Call::InterpOneGrad, outcome_of(e.value), answer.outcome)?;
+    same_components(t, Call::InterpOneGrad, e.gradient, answer.gradient)
 }
 
 // The three single calls on a query; their marks are not compared.
 pub fn same_single(
-    t: Tally,
-    g: GroupF32,
+    t: &mut Tally,
+    g: Group,
     axes: &[f32],
     vals: &[f32],
     x: [f32; 4],
-    e: Expected,
-) -> Tally {
-    let placed = call_get_loc(g, axes, vals, x);
-    let places = placed.answer;
-    let t = same_places(t, e, places);
-    let valued = call_interp_one(g, axes, vals, x);
-    let value = valued.answer;
-    let t = same_value(t, e, value);
-    let graded = call_interp_one_grad(g, axes, vals, x);
-    let gradient = graded.answer;
-    same_gradient(t, e, gradient)
+    e: Expected<f32>,
+) -> Result<(), Difference> {
+    same_places(t, e, call_get_loc(g, axes, vals, x).answer)?;
+    let value = call_interp_one(g, axes, vals, x).answer;
+    same_value(t, Call::InterpOne, e.value, value)?;
+    same_gradient(t, e, call_interp_one_grad(g, axes, vals, x).answer)
 }

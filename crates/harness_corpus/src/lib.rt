@@ -1,292 +1,305 @@
-// Reads the corpus's groups and expected answers. Its format is in docs/CORPUS.md. A read past the end gives 0, and `state` tells of it.
+// Reads the corpus's groups and expected answers. Its format is in docs/CORPUS.md.
 #![tactic(auto)]
 
-use harness_words::{float, word};
-use multicubic::{Axis, EdgeMode};
+use harness_words::{Difference, class_of, float_of};
+use multicubic::{Answer, Axis, Check, EdgeMode, Outcome, Place, Saturation};
+use std::fmt;
 
-// What ends a run besides a difference.
-pub const CUT_SHORT: u64 = 2;
+// What is wrong with a corpus.
+#[derive(Clone, Copy)]
+pub enum Fault {
+    CutShort,
+    OutOfLimits,
+    Trailing,
+}
 
-pub const OUT_OF_LIMITS: u64 = 3;
+impl fmt::Display for Fault {
+    fn fmt<W: fmt::Write>(&self, f: &mut fmt::Formatter<W>) -> fmt::Result {
+        f.write_str(match self {
+            Fault::CutShort => "cut short",
+            Fault::OutOfLimits => "out of limits",
+            Fault::Trailing => "words after the last group",
+        })
+    }
+}
 
-pub const TRAILING: u64 = 4;
+// What ends a run before all is compared.
+#[derive(Clone, Copy)]
+pub enum End {
+    Differs(Difference),
+    Faulty(Fault),
+}
 
-// A group's grid, what `new` gives of it, and where its parts are in the corpus.
+impl From<Difference> for End {
+    fn from(difference: Difference) -> End {
+        End::Differs(difference)
+    }
+}
+
+impl From<Fault> for End {
+    fn from(fault: Fault) -> End {
+        End::Faulty(fault)
+    }
+}
+
+// A grid's axes, or the counts of a rectilinear one, whose axes are joined in a slice. Over f64: of a generic one the derived clone is not proved.
+#[derive(Clone, Copy)]
+pub enum Axes {
+    Regular([Axis<f64>; 4]),
+    Rectilinear([usize; 4]),
+}
+
+// A grid, and for how many queries and entries its batches have buffers.
 #[derive(Clone, Copy)]
 pub struct Group {
-    pub state: u64,
-    pub rectilinear: bool,
-    pub mode: EdgeMode,
     pub n: usize,
-    pub counts: [usize; 4],
-    pub axes: [Axis; 4],
-    pub joined_at: usize,
-    pub joined: usize,
-    pub vals_at: usize,
-    pub vals: usize,
-    pub number: u64,
-    pub axis: u64,
+    pub mode: EdgeMode,
+    pub axes: Axes,
     pub count: usize,
-    pub queries_at: usize,
     pub entries: usize,
-    pub answers_at: usize,
 }
 
-// A query's expected answer.
+// A group of the corpus: its grid, what `new` gives of it, and its queries.
 #[derive(Clone, Copy)]
-pub struct Expected {
-    pub state: u64,
-    pub number: u64,
+pub struct Block<'a> {
+    pub grid: Group,
+    pub axes: &'a [f64],
+    pub vals: &'a [f64],
+    pub outcome: Outcome,
+    // The axis that stands beside the number of the outcome, and beside 0 too.
     pub axis: u64,
-    pub places: [u64; 4],
-    pub value: u64,
-    pub gradient: [u64; 4],
-    pub next: usize,
+    pub queries: &'a [f64],
 }
 
-// Sums of positions. Every part is short, so none wraps.
-pub fn plus(a: usize, b: usize) -> usize {
-    std::num::wrapping_add_usize(a, b)
+// Where a query is to lie on an axis. A class is the corpus's number: one that names no class is told as a difference, and is no fault.
+#[derive(Clone, Copy)]
+pub struct ExpectedPlace {
+    pub origin: u64,
+    pub class: u64,
 }
 
-// A length, and 0 where it is over the limit.
-pub fn capped(x: u64, most: u64) -> usize {
-    if x <= most { x as usize } else { 0 }
-}
-
-// n columns of c entries, for n to 4.
-pub fn columns(n: usize, c: usize) -> usize {
-    let two = plus(c, c);
-    if n == 0 {
-        return 0;
-    }
-    if n == 1 {
-        return c;
-    }
-    if n == 2 {
-        return two;
-    }
-    if n == 3 {
-        return plus(two, c);
-    }
-    plus(two, two)
-}
-
-// A fault unless `count` words are left from `at` on.
-pub fn need(state: u64, words: &[u64], at: usize, count: usize) -> u64 {
-    if state != 0 {
-        return state;
-    }
-    if at <= words.len() {
-        if count <= words.len() - at {
-            return 0;
+impl ExpectedPlace {
+    pub fn of(place: Place) -> ExpectedPlace {
+        ExpectedPlace {
+            origin: place.origin as u64,
+            class: class_of(place.class),
         }
     }
-    CUT_SHORT
 }
 
-// A fault unless x is from least to most.
-pub fn limit(state: u64, x: u64, least: u64, most: u64) -> u64 {
-    if state != 0 {
-        return state;
+// A query's expected answer. The places and the gradient of a refusal are promised, so that they stand beside it.
+#[derive(Clone, Copy)]
+pub struct Expected<T> {
+    pub value: Answer<T>,
+    pub places: [ExpectedPlace; 4],
+    pub gradient: [T; 4],
+}
+
+// The corpus's words, from the next one on.
+#[derive(Clone, Copy)]
+pub struct Reader<'a> {
+    pub words: &'a [u64],
+    pub at: usize,
+}
+
+impl Reader<'_> {
+    // The next word.
+    pub fn word(&mut self) -> Result<u64, Fault> {
+        let word = *self.words.get(self.at).ok_or(Fault::CutShort)?;
+        self.at += 1;
+        Ok(word)
     }
-    if x < least {
-        return OUT_OF_LIMITS;
+
+    // There are so many words more.
+    pub fn need(&self, count: usize) -> Result<(), Fault> {
+        match self.words.len().checked_sub(self.at) {
+            Some(left) if count <= left => Ok(()),
+            _ => Err(Fault::CutShort),
+        }
     }
-    if most < x {
-        return OUT_OF_LIMITS;
+
+    // The next word, from least to most.
+    pub fn number(&mut self, least: usize, most: usize) -> Result<usize, Fault> {
+        let x = self.word()? as usize;
+        if x < least || most < x {
+            return Err(Fault::OutOfLimits);
+        }
+        Ok(x)
     }
-    0
-}
 
-// A part of the floats; empty where it is not there.
-pub fn part<'a>(floats: &'a [f64], at: usize, count: usize) -> &'a [f64] {
-    if floats.len() < at {
-        return &floats[0..0];
+    pub fn counts(&mut self) -> Result<[usize; 4], Fault> {
+        let mut counts = [0; 4];
+        for count in counts.iter_mut() {
+            *count = self.word()? as usize;
+        }
+        Ok(counts)
     }
-    if floats.len() - at < count {
-        return &floats[0..0];
+
+    pub fn mode(&mut self) -> Result<EdgeMode, Fault> {
+        match self.word()? {
+            0 => Ok(EdgeMode::Cubic),
+            1 => Ok(EdgeMode::Straight),
+            _ => Err(Fault::OutOfLimits),
+        }
     }
-    let end = at + count;
-    &floats[at..end]
-}
 
-pub fn size(words: &[u64], at: usize, i: usize) -> usize {
-    word(words, plus(at, i)) as usize
-}
-
-fn axis_at(floats: &[f64], at: usize, i: usize, count: usize) -> Axis {
-    let start_at = plus(at, i);
-    Axis {
-        start: float(floats, start_at),
-        step: float(floats, plus(start_at, 4)),
-        count,
+    // What `new` gives: a number of its checks, 0 for none.
+    pub fn outcome(&mut self) -> Result<(Outcome, u64), Fault> {
+        let number = self.word()?;
+        let axis = self.word()?;
+        let check = match number {
+            0 => return Ok((Ok(()), axis)),
+            1 => Check::AxisCount,
+            2 => Check::TooLarge,
+            3 => Check::WrongLength,
+            4 => Check::TooFew,
+            5 => Check::NotRising,
+            6 => Check::Disordered,
+            _ => return Err(Fault::OutOfLimits),
+        };
+        Ok((Err(check.at(0, axis as usize)), axis))
     }
-}
 
-// The four counts of a regular or a rectilinear grid.
-pub fn counts_at(words: &[u64], at: usize) -> [usize; 4] {
-    [
-        size(words, at, 0),
-        size(words, at, 1),
-        size(words, at, 2),
-        size(words, at, 3),
-    ]
-}
+    fn place(&mut self) -> Result<ExpectedPlace, Fault> {
+        let word = self.word()?;
+        Ok(ExpectedPlace {
+            origin: word / 8,
+            class: word % 8,
+        })
+    }
 
-// The four axes of a regular grid.
-fn axes_at(floats: &[f64], at: usize, counts: [usize; 4]) -> [Axis; 4] {
-    [
-        axis_at(floats, at, 0, counts[0]),
-        axis_at(floats, at, 1, counts[1]),
-        axis_at(floats, at, 2, counts[2]),
-        axis_at(floats, at, 3, counts[3]),
-    ]
-}
-
-pub fn mode_of(x: u64) -> EdgeMode {
-    if x == 1 {
-        EdgeMode::Straight
-    } else {
-        EdgeMode::Cubic
+    // The places on n axes, and none past them.
+    pub fn places(&mut self, n: usize) -> Result<[ExpectedPlace; 4], Fault> {
+        let mut places = nowhere();
+        for place in places.iter_mut().take(n) {
+            *place = self.place()?;
+        }
+        Ok(places)
     }
 }
 
-// A refused grid has no queries.
-pub fn most_queries(number: u64) -> u64 {
-    if number == 0 { 64 } else { 0 }
+fn float_at(reader: &mut Reader) -> Result<f64, Fault> {
+    let word = reader.word()?;
+    Ok(float_of(word))
 }
 
-// The group that starts at a word, or the fault.
-pub fn group_at(words: &[u64], floats: &[f64], at: usize) -> Group {
-    let kind = word(words, at);
-    let mode = word(words, plus(at, 1));
-    let axis_count = word(words, plus(at, 2));
-    let counts = counts_at(words, plus(at, 3));
-    let front = plus(at, 7);
-    let rectilinear = kind == 1;
-    let joined_word = if rectilinear { word(words, front) } else { 0 };
-    let s = need(0, words, at, 9);
-    let s = limit(s, kind, 0, 1);
-    let s = limit(s, mode, 0, 1);
-    let s = limit(s, axis_count, 1, 4);
-    let s = limit(s, joined_word, 0, 4096);
-    let joined = capped(joined_word, 4096);
-    let joined_at = plus(front, 1);
-    let sizes_at = if rectilinear {
-        plus(joined_at, joined)
-    } else {
-        plus(front, 8)
+// Floats for n axes, and +0 past them.
+fn floats_at(reader: &mut Reader, n: usize) -> Result<[f64; 4], Fault> {
+    let mut floats = [0.0; 4];
+    for float in floats.iter_mut().take(n) {
+        *float = float_at(reader)?;
+    }
+    Ok(floats)
+}
+
+// The next floats, of the words from the reader's on.
+fn part_at<'a>(reader: &mut Reader, floats: &'a [f64], count: usize) -> Result<&'a [f64], Fault> {
+    let rest = floats.get(reader.at..).ok_or(Fault::CutShort)?;
+    let part = rest.get(..count).ok_or(Fault::CutShort)?;
+    reader.at += count;
+    Ok(part)
+}
+
+// Entries of n columns of `count`.
+pub fn columns(n: usize, count: usize) -> usize {
+    n.wrapping_mul(count)
+}
+
+// The axes of a regular grid.
+fn regular_at(reader: &mut Reader, counts: [usize; 4]) -> Result<Axes, Fault> {
+    let starts = floats_at(reader, 4)?;
+    let steps = floats_at(reader, 4)?;
+    let axis = |d: usize| Axis {
+        start: starts[d],
+        step: steps[d],
+        count: counts[d],
     };
-    let s = need(s, words, sizes_at, 1);
-    let vals_word = word(words, sizes_at);
-    let s = limit(s, vals_word, 0, 4096);
-    let vals = capped(vals_word, 4096);
-    let vals_at = plus(sizes_at, 1);
-    let number_at = plus(vals_at, vals);
-    let s = need(s, words, number_at, 3);
-    let number = word(words, number_at);
-    let axis = word(words, plus(number_at, 1));
-    let count_word = word(words, plus(number_at, 2));
-    let s = limit(s, number, 0, 6);
-    let s = limit(s, count_word, 0, most_queries(number));
-    let n = capped(axis_count, 4);
-    let count = capped(count_word, 64);
-    let queries_at = plus(number_at, 3);
+    Ok(Axes::Regular([axis(0), axis(1), axis(2), axis(3)]))
+}
+
+// The next group. A refused grid has no queries.
+pub fn group_at<'a>(reader: &mut Reader, floats: &'a [f64]) -> Result<Block<'a>, Fault> {
+    reader.need(9)?;
+    let rectilinear = reader.number(0, 1)? == 1;
+    let mode = reader.mode()?;
+    let n = reader.number(1, 4)?;
+    let counts = reader.counts()?;
+    let (grid_axes, axes) = if rectilinear {
+        let joined = reader.number(0, 4096)?;
+        (Axes::Rectilinear(counts), part_at(reader, floats, joined)?)
+    } else {
+        (regular_at(reader, counts)?, part_at(reader, floats, 0)?)
+    };
+    let values = reader.number(0, 4096)?;
+    let vals = part_at(reader, floats, values)?;
+    reader.need(3)?;
+    let (outcome, axis) = reader.outcome()?;
+    let most = if outcome.is_ok() { 64 } else { 0 };
+    let count = reader.number(0, most)?;
     let entries = columns(n, count);
-    let s = need(s, words, queries_at, entries);
-    Group {
-        state: s,
-        rectilinear,
-        mode: mode_of(mode),
+    let queries = part_at(reader, floats, entries)?;
+    let grid = Group {
         n,
-        counts,
-        axes: axes_at(floats, front, counts),
-        joined_at,
-        joined,
-        vals_at,
-        vals,
-        number,
-        axis,
+        mode,
+        axes: grid_axes,
         count,
-        queries_at,
         entries,
-        answers_at: plus(queries_at, entries),
-    }
-}
-
-// Word i from `at` on, and 0 from n on.
-fn within(words: &[u64], at: usize, i: usize, n: usize) -> u64 {
-    if i < n { word(words, plus(at, i)) } else { 0 }
-}
-
-fn four_within(words: &[u64], at: usize, n: usize) -> [u64; 4] {
-    [
-        within(words, at, 0, n),
-        within(words, at, 1, n),
-        within(words, at, 2, n),
-        within(words, at, 3, n),
-    ]
-}
-
-// The answer that a refusal is: its places, value and gradient are those of none.
-pub fn refusal(number: u64, axis: u64) -> Expected {
-    Expected {
-        state: 0,
-        number,
+    };
+    Ok(Block {
+        grid,
+        axes,
+        vals,
+        outcome,
         axis,
-        places: [0; 4],
-        value: 0,
-        gradient: [0; 4],
-        next: 0,
-    }
+        queries,
+    })
 }
 
-// An unplaceable query.
-fn unplaceable_at(words: &[u64], at: usize, state: u64) -> Expected {
-    let axis = word(words, plus(at, 1));
-    let mut r = refusal(8, axis);
-    r.state = limit(need(state, words, at, 2), axis, 0, 3);
-    r.next = plus(at, 2);
-    r
+// Origin 0, None: what there is past the axis count, and on refusal.
+fn nowhere() -> [ExpectedPlace; 4] {
+    let place = Place {
+        origin: 0,
+        class: Saturation::None,
+    };
+    [ExpectedPlace::of(place); 4]
 }
 
-// The expected answer that starts at a word.
-pub fn expected_at(words: &[u64], at: usize, n: usize) -> Expected {
-    let placed = word(words, at);
-    let state = limit(need(0, words, at, 1), placed, 0, 1);
-    if placed == 0 {
-        return unplaceable_at(words, at, state);
-    }
-    let places_at = plus(at, 1);
-    let value_at = plus(places_at, n);
-    let gradient_at = plus(value_at, 1);
-    let next = plus(gradient_at, n);
+// The answer that a refusal of a query is.
+pub fn refusal(check: Check, axis: usize) -> Expected<f64> {
     Expected {
-        state: need(state, words, gradient_at, n),
-        number: 0,
-        axis: 0,
-        places: four_within(words, places_at, n),
-        value: word(words, value_at),
-        gradient: four_within(words, gradient_at, n),
-        next,
+        value: Err(check.at(0, axis)),
+        places: nowhere(),
+        gradient: [0.0; 4],
     }
+}
+
+// The next expected answer, on n axes.
+pub fn expected_at(reader: &mut Reader, n: usize) -> Result<Expected<f64>, Fault> {
+    if reader.number(0, 1)? == 0 {
+        let axis = reader.number(0, 3)?;
+        return Ok(refusal(Check::NoPlace, axis));
+    }
+    let places = reader.places(n)?;
+    let value = float_at(reader)?;
+    let gradient = floats_at(reader, n)?;
+    Ok(Expected {
+        value: Ok(value),
+        places,
+        gradient,
+    })
+}
+
+// The first floats; none where there are fewer.
+pub fn part(floats: &[f64], count: usize) -> &[f64] {
+    floats.get(..count).unwrap_or(&[])
 }
 
 // Query i of the joined columns; past the axis count the NaN, which must not matter.
-fn coordinate(queries: &[f64], count: usize, i: usize, d: usize, n: usize) -> f64 {
-    if d < n {
-        float(queries, plus(columns(d, count), i))
-    } else {
-        0.0 / 0.0
-    }
-}
-
 pub fn query(queries: &[f64], count: usize, i: usize, n: usize) -> [f64; 4] {
-    [
-        coordinate(queries, count, i, 0, n),
-        coordinate(queries, count, i, 1, n),
-        coordinate(queries, count, i, 2, n),
-        coordinate(queries, count, i, 3, n),
-    ]
+    let mut x = [f64::NAN; 4];
+    for d in 0..n.min(4) {
+        let at = columns(d, count).wrapping_add(i);
+        x[d] = queries.get(at).copied().unwrap_or(f64::NAN);
+    }
+    x
 }

@@ -1,137 +1,157 @@
 // f32: written by tools/width from crates/harness_corpus/src/lib.rt; what has no float is called there.
-// Reads the corpus's groups and expected answers. Its format is in docs/CORPUS.md. A read past the end gives 0, and `state` tells of it.
+// Reads the corpus's groups and expected answers. Its format is in docs/CORPUS.md.
 #![tactic(auto)]
 
-use harness_corpus::{capped, columns, counts_at, limit, mode_of, most_queries, need, plus};
-use harness_words::word;
-use harness_words_f32::float;
-use multicubic::EdgeMode;
-use multicubic_f32::AxisF32;
+use harness_corpus::{Expected, ExpectedPlace, Fault, Reader, columns};
+use harness_words_f32::float_of;
+use multicubic::{Axis, Check, EdgeMode, Outcome, Place, Saturation};
 
-// A group's grid, what `new` gives of it, and where its parts are in the corpus.
+// A grid's axes, or the counts of a rectilinear one, whose axes are joined in a slice. Over f32: of a generic one the derived clone is not proved.
 #[derive(Clone, Copy)]
-pub struct GroupF32 {
-    pub state: u64,
-    pub rectilinear: bool,
-    pub mode: EdgeMode,
+pub enum Axes {
+    Regular([Axis<f32>; 4]),
+    Rectilinear([usize; 4]),
+}
+
+// A grid, and for how many queries and entries its batches have buffers.
+#[derive(Clone, Copy)]
+pub struct Group {
     pub n: usize,
-    pub counts: [usize; 4],
-    pub axes: [AxisF32; 4],
-    pub joined_at: usize,
-    pub joined: usize,
-    pub vals_at: usize,
-    pub vals: usize,
-    pub number: u64,
-    pub axis: u64,
+    pub mode: EdgeMode,
+    pub axes: Axes,
     pub count: usize,
-    pub queries_at: usize,
     pub entries: usize,
-    pub answers_at: usize,
 }
 
-// A part of the floats; empty where it is not there.
-pub fn part<'a>(floats: &'a [f32], at: usize, count: usize) -> &'a [f32] {
-    if floats.len() < at {
-        return &floats[0..0];
+// A group of the corpus: its grid, what `new` gives of it, and its queries.
+#[derive(Clone, Copy)]
+pub struct Block<'a> {
+    pub grid: Group,
+    pub axes: &'a [f32],
+    pub vals: &'a [f32],
+    pub outcome: Outcome,
+    // The axis that stands beside the number of the outcome, and beside 0 too.
+    pub axis: u64,
+    pub queries: &'a [f32],
+}
+
+fn float_at(reader: &mut Reader) -> Result<f32, Fault> {
+    let word = reader.word()?;
+    Ok(float_of(word))
+}
+
+// Floats for n axes, and +0 past them.
+fn floats_at(reader: &mut Reader, n: usize) -> Result<[f32; 4], Fault> {
+    let mut floats = [0.0; 4];
+    for float in floats.iter_mut().take(n) {
+        *float = float_at(reader)?;
     }
-    if floats.len() - at < count {
-        return &floats[0..0];
-    }
-    let end = at + count;
-    &floats[at..end]
+    Ok(floats)
 }
 
-fn axis_at(floats: &[f32], at: usize, i: usize, count: usize) -> AxisF32 {
-    let start_at = plus(at, i);
-    AxisF32 {
-        start: float(floats, start_at),
-        step: float(floats, plus(start_at, 4)),
-        count,
-    }
+// The next floats, of the words from the reader's on.
+fn part_at<'a>(reader: &mut Reader, floats: &'a [f32], count: usize) -> Result<&'a [f32], Fault> {
+    let rest = floats.get(reader.at..).ok_or(Fault::CutShort)?;
+    let part = rest.get(..count).ok_or(Fault::CutShort)?;
+    reader.at += count;
+    Ok(part)
 }
 
-// The four axes of a regular grid.
-fn axes_at(floats: &[f32], at: usize, counts: [usize; 4]) -> [AxisF32; 4] {
-    [
-        axis_at(floats, at, 0, counts[0]),
-        axis_at(floats, at, 1, counts[1]),
-        axis_at(floats, at, 2, counts[2]),
-        axis_at(floats, at, 3, counts[3]),
-    ]
-}
-
-// The group that starts at a word, or the fault.
-pub fn group_at(words: &[u64], floats: &[f32], at: usize) -> GroupF32 {
-    let kind = word(words, at);
-    let mode = word(words, plus(at, 1));
-    let axis_count = word(words, plus(at, 2));
-    let counts = counts_at(words, plus(at, 3));
-    let front = plus(at, 7);
-    let rectilinear = kind == 1;
-    let joined_word = if rectilinear { word(words, front) } else { 0 };
-    let s = need(0, words, at, 9);
-    let s = limit(s, kind, 0, 1);
-    let s = limit(s, mode, 0, 1);
-    let s = limit(s, axis_count, 1, 4);
-    let s = limit(s, joined_word, 0, 4096);
-    let joined = capped(joined_word, 4096);
-    let joined_at = plus(front, 1);
-    let sizes_at = if rectilinear {
-        plus(joined_at, joined)
-    } else {
-        plus(front, 8)
+// The axes of a regular grid.
+fn regular_at(reader: &mut Reader, counts: [usize; 4]) -> Result<Axes, Fault> {
+    let starts = floats_at(reader, 4)?;
+    let steps = floats_at(reader, 4)?;
+    let axis = |d: usize| Axis {
+        start: starts[d],
+        step: steps[d],
+        count: counts[d],
     };
-    let s = need(s, words, sizes_at, 1);
-    let vals_word = word(words, sizes_at);
-    let s = limit(s, vals_word, 0, 4096);
-    let vals = capped(vals_word, 4096);
-    let vals_at = plus(sizes_at, 1);
-    let number_at = plus(vals_at, vals);
-    let s = need(s, words, number_at, 3);
-    let number = word(words, number_at);
-    let axis = word(words, plus(number_at, 1));
-    let count_word = word(words, plus(number_at, 2));
-    let s = limit(s, number, 0, 6);
-    let s = limit(s, count_word, 0, most_queries(number));
-    let n = capped(axis_count, 4);
-    let count = capped(count_word, 64);
-    let queries_at = plus(number_at, 3);
+    Ok(Axes::Regular([axis(0), axis(1), axis(2), axis(3)]))
+}
+
+// The next group. A refused grid has no queries.
+pub fn group_at<'a>(reader: &mut Reader, floats: &'a [f32]) -> Result<Block<'a>, Fault> {
+    reader.need(9)?;
+    let rectilinear = reader.number(0, 1)? == 1;
+    let mode = reader.mode()?;
+    let n = reader.number(1, 4)?;
+    let counts = reader.counts()?;
+    let (grid_axes, axes) = if rectilinear {
+        let joined = reader.number(0, 4096)?;
+        (Axes::Rectilinear(counts), part_at(reader, floats, joined)?)
+    } else {
+        (regular_at(reader, counts)?, part_at(reader, floats, 0)?)
+    };
+    let values = reader.number(0, 4096)?;
+    let vals = part_at(reader, floats, values)?;
+    reader.need(3)?;
+    let (outcome, axis) = reader.outcome()?;
+    let most = if outcome.is_ok() { 64 } else { 0 };
+    let count = reader.number(0, most)?;
     let entries = columns(n, count);
-    let s = need(s, words, queries_at, entries);
-    GroupF32 {
-        state: s,
-        rectilinear,
-        mode: mode_of(mode),
+    let queries = part_at(reader, floats, entries)?;
+    let grid = Group {
         n,
-        counts,
-        axes: axes_at(floats, front, counts),
-        joined_at,
-        joined,
-        vals_at,
-        vals,
-        number,
-        axis,
+        mode,
+        axes: grid_axes,
         count,
-        queries_at,
         entries,
-        answers_at: plus(queries_at, entries),
+    };
+    Ok(Block {
+        grid,
+        axes,
+        vals,
+        outcome,
+        axis,
+        queries,
+    })
+}
+
+// Origin 0, None: what there is past the axis count, and on refusal.
+fn nowhere() -> [ExpectedPlace; 4] {
+    let place = Place {
+        origin: 0,
+        class: Saturation::None,
+    };
+    [ExpectedPlace::of(place); 4]
+}
+
+// The answer that a refusal of a query is.
+pub fn refusal(check: Check, axis: usize) -> Expected<f32> {
+    Expected {
+        value: Err(check.at(0, axis)),
+        places: nowhere(),
+        gradient: [0.0; 4],
     }
+}
+
+// The next expected answer, on n axes.
+pub fn expected_at(reader: &mut Reader, n: usize) -> Result<Expected<f32>, Fault> {
+    if reader.number(0, 1)? == 0 {
+        let axis = reader.number(0, 3)?;
+        return Ok(refusal(Check::NoPlace, axis));
+    }
+    let places = reader.places(n)?;
+    let value = float_at(reader)?;
+    let gradient = floats_at(reader, n)?;
+    Ok(Expected {
+        value: Ok(value),
+        places,
+        gradient,
+    })
+}
+
+// The first floats; none where there are fewer.
+pub fn part(floats: &[f32], count: usize) -> &[f32] {
+    floats.get(..count).unwrap_or(&[])
 }
 
 // Query i of the joined columns; past the axis count the NaN, which must not matter.
-fn coordinate(queries: &[f32], count: usize, i: usize, d: usize, n: usize) -> f32 {
-    if d < n {
-        float(queries, plus(columns(d, count), i))
-    } else {
-        0.0 / 0.0
-    }
-}
-
 pub fn query(queries: &[f32], count: usize, i: usize, n: usize) -> [f32; 4] {
-    [
-        coordinate(queries, count, i, 0, n),
-        coordinate(queries, count, i, 1, n),
-        coordinate(queries, count, i, 2, n),
-        coordinate(queries, count, i, 3, n),
-    ]
+    let mut x = [f32::NAN; 4];
+    for d in 0..n.min(4) {
+        let at = columns(d, count).wrapping_add(i);
+        x[d] = queries.get(at).copied().unwrap_or(f32::NAN);
+    }
+    x
 }

@@ -1,59 +1,141 @@
-// What the test programs share: words and floats of bytes, the parts of an answer as words, and the tally of comparisons.
+// What the test programs share: words and floats of bytes, the parts of an answer as words, and the comparison of words.
 #![tactic(auto)]
 
-ghost use Rattle.std.specs.Prelude.{◌≡◌, ◌+◌, ◌*◌, ◌<◌, ◌≤◌, length, from_bits, slice_index, slice_index_or, to_bits};
-ghost use Rattle.std.specs.Float.{nan, binary64};
+ghost use Rattle.std.specs.Prelude.{◌≡◌, ◌+◌, ◌*◌, ◌≤◌, ◌==◌, cond, length, from_bits, to_bits};
+ghost use Rattle.std.specs.Float.{binary64};
 ghost use Rattle.harness_words.specs.Bytes.{word_at};
 ghost use Rattle.multicubic.specs.Answers.{number_of, query_of, axis_of};
-ghost use Rattle.harness_words.specs.Tally.{class_of, compared};
+ghost use Rattle.harness_words.specs.Tally.{class_of, compared, agreed};
 
 use multicubic::{Outcome, Saturation};
+use std::fmt;
 
-// How far a run is: what agreed, and the first difference or fault, after which nothing more counts.
+// The calls under test.
 #[derive(Clone, Copy)]
-pub struct Tally {
-    // 0 while all agrees.
-    pub state: u64,
-    pub groups: u64,
-    pub queries: u64,
-    pub comparisons: u64,
-    // The query, the call, the part of its answer and the place in it that is compared.
-    pub query: u64,
-    pub call: u64,
-    pub item: u64,
-    pub place: u64,
+pub enum Call {
+    New,
+    GetLoc,
+    InterpOne,
+    InterpOneGrad,
+    Interp,
+    InterpGrad,
+    InterpOneWithGrad,
+}
+
+impl fmt::Display for Call {
+    fn fmt<W: fmt::Write>(&self, f: &mut fmt::Formatter<W>) -> fmt::Result {
+        f.write_str(match self {
+            Call::New => "new",
+            Call::GetLoc => "get_loc",
+            Call::InterpOne => "interp_one",
+            Call::InterpOneGrad => "interp_one_grad",
+            Call::Interp => "interp",
+            Call::InterpGrad => "interp_grad",
+            Call::InterpOneWithGrad => "interp_one_with_grad",
+        })
+    }
+}
+
+// The parts of an answer.
+#[derive(Clone, Copy)]
+pub enum Part {
+    Number,
+    Query,
+    Axis,
+    Origin,
+    Class,
+    Value,
+    Component,
+    Entry,
+    Mark,
+    Sums,
+}
+
+impl fmt::Display for Part {
+    fn fmt<W: fmt::Write>(&self, f: &mut fmt::Formatter<W>) -> fmt::Result {
+        f.write_str(match self {
+            Part::Number => "number",
+            Part::Query => "query",
+            Part::Axis => "axis",
+            Part::Origin => "origin",
+            Part::Class => "class",
+            Part::Value => "value",
+            Part::Component => "component",
+            Part::Entry => "entry",
+            Part::Mark => "mark",
+            Part::Sums => "sums",
+        })
+    }
+}
+
+// What does not agree: a call, the part of its answer, the place in it, and both words.
+#[derive(Clone, Copy)]
+pub struct Difference {
+    pub call: Call,
+    pub part: Part,
+    pub place: usize,
     pub expected: u64,
     pub found: u64,
 }
 
-pub const DIFFERS: u64 = 1;
+impl fmt::Display for Difference {
+    fn fmt<W: fmt::Write>(&self, f: &mut fmt::Formatter<W>) -> fmt::Result {
+        let Difference {
+            call,
+            part,
+            place,
+            expected,
+            found,
+        } = self;
+        write!(
+            f,
+            "{call} {part} {place}: expected {expected:016x}, found {found:016x}"
+        )
+    }
+}
 
-pub const NUMBER: u64 = 1;
+// How far a run is: what was counted, and the query that is compared.
+#[derive(Clone, Copy, Default)]
+pub struct Tally {
+    pub groups: u64,
+    pub queries: u64,
+    pub comparisons: u64,
+    pub query: u64,
+}
 
-pub const QUERY: u64 = 2;
-
-pub const AXIS: u64 = 3;
-
-pub const ORIGIN: u64 = 4;
-
-pub const CLASS: u64 = 5;
-
-pub const VALUE: u64 = 6;
-
-pub const COMPONENT: u64 = 7;
-
-pub const ENTRY: u64 = 8;
-
-pub const MARK: u64 = 9;
-
-pub const SUMS: u64 = 10;
+impl Tally {
+    // Compares two words: one comparison more, or the difference.
+    pub fn same(
+        &mut self,
+        call: Call,
+        part: Part,
+        place: usize,
+        expected: u64,
+        found: u64,
+    ) -> Result<(), Difference>
+        ensures answer { result ≡ compared call part place expected found }
+        ensures counted { self.new ≡ cond (expected == found) (agreed self.old) self.old }
+    {
+        if expected != found {
+            return Err(Difference {
+                call,
+                part,
+                place,
+                expected,
+                found,
+            });
+        }
+        self.comparisons = self.comparisons.wrapping_add(1);
+        Ok(())
+    }
+}
 
 // The float of a bit pattern: every NaN pattern is the NaN.
 pub fn float_of(n: u64) -> f64
     ensures { result ≡ from_bits binary64 n }
 {
     if 0x7FF0_0000_0000_0000 < n % 0x8000_0000_0000_0000 {
-        0.0 / 0.0
+        f64::NAN
     } else {
         f64::from_bits(n)
     }
@@ -63,17 +145,11 @@ pub fn float_of(n: u64) -> f64
 pub fn bits_of(x: f64) -> u64
     ensures { result ≡ to_bits binary64 x }
 {
-    if x != x {
+    if x.is_nan() {
         0x7FF8_0000_0000_0000
     } else {
-        f64::to_bits(x)
+        x.to_bits()
     }
-}
-
-fn wide(b: u8) -> u64
-    ensures { (result ≡ b) × (result < 256) }
-{
-    b as u64
 }
 
 // Eight bytes, the lowest first.
@@ -81,11 +157,16 @@ pub fn word_at(s: &[u8], at: usize) -> u64
     requires { at + 8 ≤ length s.now }
     ensures { result ≡ word_at s.now at }
 {
-    let a = wide(s[at]) + wide(s[at + 1]) * 256;
-    let b = wide(s[at + 2]) + wide(s[at + 3]) * 256;
-    let c = wide(s[at + 4]) + wide(s[at + 5]) * 256;
-    let d = wide(s[at + 6]) + wide(s[at + 7]) * 256;
-    a + b * 65536 + c * 4294967296 + d * 281474976710656
+    u64::from_le_bytes([
+        s[at],
+        s[at + 1],
+        s[at + 2],
+        s[at + 3],
+        s[at + 4],
+        s[at + 5],
+        s[at + 6],
+        s[at + 7],
+    ])
 }
 
 // The words of the bytes, and the floats of the same bits.
@@ -94,30 +175,10 @@ pub fn decode(bytes: &[u8], words: &mut [u64], floats: &mut [f64], count: usize)
     requires words_len { (length words.old ≡ 131072) × (length floats.old ≡ 131072) }
     ensures { (length words.new ≡ 131072) × (length floats.new ≡ 131072) }
 {
-    let mut i: usize = 0;
-    while i < count {
+    for i in 0..count {
         let x = word_at(bytes, i * 8);
         words[i] = x;
         floats[i] = float_of(x);
-        i += 1;
-    }
-}
-
-// Word `at`, and 0 past the end.
-pub fn word(words: &[u64], at: usize) -> u64
-    ensures { result ≡ slice_index words.now at }
-{
-    if at < words.len() { words[at] } else { 0 }
-}
-
-// Float `at`, and the NaN past the end.
-pub fn float(floats: &[f64], at: usize) -> f64
-    ensures { result ≡ slice_index_or floats.now at nan }
-{
-    if at < floats.len() {
-        floats[at]
-    } else {
-        0.0 / 0.0
     }
 }
 
@@ -126,8 +187,8 @@ pub fn number_of(outcome: Outcome) -> u64
     ensures { result ≡ number_of outcome }
 {
     match outcome {
-        Outcome::Accepted => 0,
-        Outcome::Refused { number, .. } => wide(number),
+        Ok(()) => 0,
+        Err(refusal) => refusal.check.number() as u64,
     }
 }
 
@@ -136,8 +197,8 @@ pub fn query_of(outcome: Outcome) -> u64
     ensures { result ≡ query_of outcome }
 {
     match outcome {
-        Outcome::Accepted => 0,
-        Outcome::Refused { query, .. } => query as u64,
+        Ok(()) => 0,
+        Err(refusal) => refusal.query as u64,
     }
 }
 
@@ -146,8 +207,8 @@ pub fn axis_of(outcome: Outcome) -> u64
     ensures { result ≡ axis_of outcome }
 {
     match outcome {
-        Outcome::Accepted => 0,
-        Outcome::Refused { axis, .. } => axis as u64,
+        Ok(()) => 0,
+        Err(refusal) => refusal.axis as u64,
     }
 }
 
@@ -162,41 +223,4 @@ pub fn class_of(class: Saturation) -> u64
         Saturation::InsideHigh => 3,
         Saturation::OutsideHigh => 4,
     }
-}
-
-// The tally before the first comparison.
-pub fn clear() -> Tally {
-    Tally {
-        state: 0,
-        groups: 0,
-        queries: 0,
-        comparisons: 0,
-        query: 0,
-        call: 0,
-        item: 0,
-        place: 0,
-        expected: 0,
-        found: 0,
-    }
-}
-
-// Compares two words: one comparison more, or the difference. A tally that is not 0 stays as it is.
-pub fn same(t: Tally, call: u64, item: u64, place: u64, expected: u64, found: u64) -> Tally
-    ensures { result ≡ compared t call item place expected found }
-{
-    if t.state != 0 {
-        return t;
-    }
-    let mut r = t;
-    if expected == found {
-        r.comparisons = std::num::wrapping_add_u64(t.comparisons, 1);
-        return r;
-    }
-    r.state = DIFFERS;
-    r.call = call;
-    r.item = item;
-    r.place = place;
-    r.expected = expected;
-    r.found = found;
-    r
 }

@@ -1,9 +1,9 @@
 // f32: written by tools/width from crates/harness_words/src/lib.rt; what has no float is called there.
-// What the test programs share: words and floats of bytes, the parts of an answer as words, and the tally of comparisons.
+// What the test programs share: words and floats of bytes, the parts of an answer as words, and the comparison of words.
 #![tactic(auto)]
 
-ghost use Rattle.std.specs.Prelude.{◌%◌, ◌≡◌, ◌*◌, ◌≤◌, length, from_bits, slice_index_or, to_bits};
-ghost use Rattle.std.specs.Float.{nan, binary32};
+ghost use Rattle.std.specs.Prelude.{◌%◌, ◌≡◌, ◌*◌, ◌≤◌, length, from_bits, to_bits};
+ghost use Rattle.std.specs.Float.{binary32};
 
 use harness_words::word_at;
 
@@ -36,22 +36,9 @@ pub fn decode(bytes: &[u8], words: &mut [u64], floats: &mut [f32], count: usize)
     requires words_len { (length words.old ≡ 131072) × (length floats.old ≡ 131072) }
     ensures { (length words.new ≡ 131072) × (length floats.new ≡ 131072) }
 {
-    let mut i: usize = 0;
-    while i < count {
+    for i in 0..count {
         let x = word_at(bytes, i * 8);
         words[i] = x;
         floats[i] = float_of(x);
-        i += 1;
-    }
-}
-
-// Float `at`, and the NaN past the end.
-pub fn float(floats: &[f32], at: usize) -> f32
-    ensures { result ≡ slice_index_or floats.now at nan }
-{
-    if at < floats.len() {
-        floats[at]
-    } else {
-        0.0 / 0.0
     }
 }

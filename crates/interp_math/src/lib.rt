@@ -1,45 +1,81 @@
-// Port of src/lib.rs (`mul_add`) and src/interp_math.rs, f64, without fma.
+// Port of src/lib.rs (`mul_add`) and src/interp_math.rs, without fma, at either float type.
 #![tactic(auto)]
 
-ghost use Rattle.std.specs.Prelude.{◌≡◌};
-ghost use Rattle.std.specs.Float.{binary64};
+ghost use Rattle.std.specs.Prelude.{◌≡◌, List, map};
+ghost use Rattle.std.specs.Float.{Float as Ieee754};
 ghost use Rattle.interp_math.specs.Basis.{mul_add, hermite_basis, hermite_basis_derivative, scaled};
 ghost use Rattle.interp_math.specs.Dot.{dot4};
+ghost use Rattle.interp_math.specs.Lists.{map_rows};
+ghost use Rattle.std.proofs.lemmas.List.{map-id};
 
-pub fn mul_add(mul_lhs: f64, mul_rhs: f64, addend: f64) -> f64
-    ensures { result ≡ mul_add binary64 mul_lhs mul_rhs addend }
+use num_traits::Float;
+
+// A float type, as the definitions see it: lists of its values, and rows of such lists, are lists of floats. At `f64` and `f32` they are the lists
+// themselves, so that there a contract says the same as over floats.
+pub trait Real: Float {
+    ghost floats: { List Self → List Ieee754 };
+
+    ghost rows: { List (List Self) → List (List Ieee754) };
+
+    ghost floats_law: { (xs : List Self) → map Self.float xs ≡ floats xs };
+
+    ghost rows_law: { (xs : List (List Self)) → map (map Self.float) xs ≡ rows xs };
+}
+
+impl Real for f64 {
+    ghost floats = { λ doubles. doubles };
+
+    ghost rows = { λ doubles. doubles };
+
+    ghost floats_law = { map-id };
+
+    ghost rows_law = { map_rows };
+}
+
+impl Real for f32 {
+    ghost floats = { λ singles. singles };
+
+    ghost rows = { λ singles. singles };
+
+    ghost floats_law = { map-id };
+
+    ghost rows_law = { map_rows };
+}
+
+pub fn mul_add<T: Real>(mul_lhs: T, mul_rhs: T, addend: T) -> T
+    ensures { T.float result ≡ mul_add T.format (T.float mul_lhs) (T.float mul_rhs) (T.float addend) }
 {
     mul_lhs * mul_rhs + addend
 }
 
-pub fn dot4(weights: [f64; 4], vals: [f64; 4]) -> f64
-    ensures { result ≡ dot4 binary64 weights vals }
+pub fn dot4<T: Real>(weights: [T; 4], vals: [T; 4]) -> T
+    ensures { T.float result ≡ dot4 T.format (T.floats weights) (T.floats vals) }
 {
     let lo = mul_add(weights[1], vals[1], weights[0] * vals[0]);
     let hi = mul_add(weights[3], vals[3], weights[2] * vals[2]);
     lo + hi
 }
 
-pub fn hermite_basis(t: f64) -> [f64; 4]
-    ensures { result ≡ hermite_basis binary64 t }
+pub fn hermite_basis<T: Real>(t: T) -> [T; 4]
+    ensures { T.floats result ≡ hermite_basis T.format (T.float t) }
 {
-    let one = 1.0;
+    let one = T::one();
     let two = one + one;
     let three = two + one;
     let t2 = t * t;
     let t3 = t2 * t;
     [
         mul_add(two, t3, mul_add(-three, t2, one)),
-        mul_add(t, mul_add(t, t - two, one), 0.0),
+        mul_add(t, mul_add(t, t - two, one), T::zero()),
         mul_add(-two, t3, three * t2),
-        mul_add(t2, t - one, 0.0),
+        mul_add(t2, t - one, T::zero()),
     ]
 }
 
-pub fn hermite_basis_derivative(t: f64) -> [f64; 4]
-    ensures { result ≡ hermite_basis_derivative binary64 t }
+pub fn hermite_basis_derivative<T: Real>(t: T) -> [T; 4]
+    ensures { T.floats result ≡ hermite_basis_derivative T.format (T.float t) }
 {
-    let one = 1.0;
+    let one = T::one();
     let two = one + one;
     let three = two + one;
     let six = three + three;
@@ -53,8 +89,8 @@ pub fn hermite_basis_derivative(t: f64) -> [f64; 4]
 }
 
 // Derivative weights by t, scaled to derivative weights by the query.
-pub fn scale_weights(weights: [f64; 4], scale: f64) -> [f64; 4]
-    ensures { result ≡ scaled binary64 scale weights }
+pub fn scale_weights<T: Real>(weights: [T; 4], scale: T) -> [T; 4]
+    ensures { T.floats result ≡ scaled T.format (T.float scale) (T.floats weights) }
 {
     [
         weights[0] * scale,

@@ -1,11 +1,10 @@
 -- Clause 9.1: the marked cases, seven regular rows and five rectilinear ones, and three of them where the edges are held.
-use Rattle.std.specs.Prelude.{ℕ, Bool, true, false, List, [], ◌∷◌, pos, negsuc, Float}
+use Rattle.std.specs.Prelude.{ℕ, Bool, true, false, List, [], ◌∷◌, pos, negsuc, Ok, Err, Float}
 use Rattle.std.specs.Float.{fin, Format}
 use Rattle.multicubic.specs.declared.Saturation.{Saturation}
 use Rattle.multicubic.specs.declared.Saturation.TheVariants.{None, InsideLow, OutsideLow, InsideHigh, OutsideHigh}
 use Rattle.multicubic.specs.declared.Marks.{Marks}
-use Rattle.multicubic.specs.declared.Loc.{Loc}
-use Rattle.multicubic.specs.declared.Loc.TheVariants.{At, NotANumber, Unplaceable}
+use Rattle.multicubic.specs.Types.{Loc}
 use Rattle.multicubic.specs.Answers.{number_of, place_outcome}
 use Rattle.multicubic.specs.declared.EdgeMode.{EdgeMode}
 use Rattle.multicubic.specs.declared.EdgeMode.TheVariants.{Cubic, Straight, Held}
@@ -32,9 +31,8 @@ axis_of f mode (rectilinear entries) = Rectilinear.axis_in f mode entries
 
 -- origin, class and whether the query is marked below or above, or the number of clause 2.2
 abbrev pub told : Marks → Loc → Told
-told m (At p) = place p.origin p.class m.below m.above
-told m NotANumber = refused (number_of (place_outcome 0 0 NotANumber))
-told m Unplaceable = refused (number_of (place_outcome 0 0 Unplaceable))
+told m (Ok p) = place p.origin p.class m.below m.above
+told m (Err error) = refused (number_of (place_outcome 0 0 (Err error)))
 
 abbrev pub answer : Format → EdgeMode → Row → Told
 answer f mode r = told (marks_at (axis_of f mode r.axis) r.query) ((axis_of f mode r.axis).loc r.query)

@@ -6,11 +6,14 @@ use Prim.Native.Nat.{ℕ}
 use native.Mathlib.Omega.{arith}
 use lib.Ieee.{Float, is_nan, ne}
 use Rattle.ieee.proofs.Nan.{differs_nan, same_number}
-use Rattle.multicubic.specs.declared.Loc.{Loc}
-use Rattle.multicubic.specs.declared.Loc.TheVariants.{At, NotANumber, Unplaceable}
+use Rattle.std.specs.Prelude.{Err, Ok}
+use Rattle.multicubic.specs.declared.Check.{Check}
+use Rattle.multicubic.specs.declared.Check.TheVariants.{NoPlace, NoNumber}
+use Rattle.multicubic.specs.declared.LocError.{LocError}
+use Rattle.multicubic.specs.declared.LocError.TheVariants.{NotANumber, Unplaceable}
 use Rattle.multicubic.specs.declared.Place.{Place}
-use Rattle.multicubic.specs.declared.Outcome.TheVariants.{Refused}
-use Rattle.multicubic.specs.Answers.{number_of, place_outcome}
+use Rattle.multicubic.specs.Answers.{check_of, place_outcome}
+use Rattle.multicubic.specs.Types.{Loc, refusal}
 use Rattle.multicubic.specs.Place.{if_number, Placed, AxisOutcome, refused, placed, outcome_at}
 
 pub of_number : (x : Float) (l : Loc) → is_nan x ≡ false → if_number x l ≡ l
@@ -20,58 +23,49 @@ of_number x l e = rw e refl
 pub asked-number : (x : Float) (l : Loc) → ne x x ≡ false → if_number x l ≡ l
 asked-number x l e = of_number x l (same_number x e)
 
-pub asked-nan : (x : Float) (l : Loc) → ne x x ≡ true → if_number x l ≡ NotANumber
+pub asked-nan : (x : Float) (l : Loc) → ne x x ≡ true → if_number x l ≡ (Err NotANumber)
 asked-nan x l e = rw (differs_nan x e) refl
 
-pub placed_number : (x : Float) (l : Loc) (p : Place) → if_number x l ≡ At p → (is_nan x ≡ false) × (l ≡ At p)
+pub placed_number : (x : Float) (l : Loc) (p : Place) → if_number x l ≡ Ok p → (is_nan x ≡ false) × (l ≡ Ok p)
 placed_number x l p e = go (is_nan x) refl e
   where
-    go : (b : Bool) → is_nan x ≡ b → cond b NotANumber l ≡ At p → (is_nan x ≡ false) × (l ≡ At p)
+    go : (b : Bool) → is_nan x ≡ b → cond b (Err NotANumber) l ≡ Ok p → (is_nan x ≡ false) × (l ≡ Ok p)
     go true n e = absurd (let y : ◌≡◌ {A = ℕ} 0 1 = cc in omega arith)
     go false n e = (n, e)
 
 -- whether what is found is that there is no number
 abbrev pub missing : Loc → Bool
-missing (At p) = false
-missing NotANumber = true
-missing Unplaceable = false
+missing (Ok p) = false
+missing (Err NotANumber) = true
+missing (Err Unplaceable) = false
 
 pub missing-number : (x : Float) (l : Loc) → missing l ≡ false → missing (if_number x l) ≡ is_nan x
 missing-number x l e = go (is_nan x)
   where
-    go : (b : Bool) → missing (cond b NotANumber l) ≡ b
+    go : (b : Bool) → missing (cond b (Err NotANumber) l) ≡ b
     go true = refl
     go false = e
 
 -- ---- what an axis gives for it
-abbrev number_in : AxisOutcome → ℕ
-number_in (refused number) = number
-number_in (placed p) = 0
+abbrev pub check_in : AxisOutcome → Check
+check_in (refused check) = check
+check_in (placed p) = NoPlace
 
 module _ (w d : Place → List Float) where
   pub placed-present : (l : Loc) (p : Placed) → outcome_at w d l ≡ placed p → missing l ≡ false
-  placed-present (At q) p e = refl
-  placed-present NotANumber p e = absurd (let y : ◌≡◌ {A = ℕ} 0 1 = cc in omega arith)
-  placed-present Unplaceable p e = refl
+  placed-present (Ok q) p e = refl
+  placed-present (Err NotANumber) p e = absurd (let y : ◌≡◌ {A = ℕ} 0 1 = cc in omega arith)
+  placed-present (Err Unplaceable) p e = refl
 
   -- an axis's refusal is 9 or 8
-  pub refused-by : (l : Loc) (number : ℕ) → outcome_at w d l ≡ refused number → number ≡ cond (missing l) 9 8
-  refused-by (At p) number e = absurd (let y : ◌≡◌ {A = ℕ} 0 1 = cc in omega arith)
-  refused-by NotANumber number e = sym (ap number_in e)
-  refused-by Unplaceable number e = sym (ap number_in e)
+  pub refused-by : (l : Loc) (check : Check) → outcome_at w d l ≡ refused check → check ≡ cond (missing l) NoNumber NoPlace
+  refused-by (Ok p) check e = absurd (let y : ◌≡◌ {A = ℕ} 0 1 = cc in omega arith)
+  refused-by (Err NotANumber) check e = sym (ap check_in e)
+  refused-by (Err Unplaceable) check e = sym (ap check_in e)
 
--- ---- no place
-abbrev pub Unplaced : Loc → Type 0
-Unplaced (At p) = ⊥
-Unplaced NotANumber = Unit
-Unplaced Unplaceable = Unit
+-- ---- no place, and why
+pub unplaced_outcome : (l : Loc) (e : LocError) → l ≡ Err e → (query axis : ℕ) → place_outcome query axis l ≡ Err (refusal (check_of e) query axis)
+unplaced_outcome l e is query axis = rw is refl
 
-pub unplaced_outcome : (l : Loc) → Unplaced l → (query axis : ℕ) → place_outcome query axis l ≡ Refused (number_of (place_outcome 0 0 l)) query axis
-unplaced_outcome (At p) u query axis = absurd u
-unplaced_outcome NotANumber u query axis = refl
-unplaced_outcome Unplaceable u query axis = refl
-
-pub unplaced_at : (w d : Place → List Float) (l : Loc) → Unplaced l → outcome_at w d l ≡ refused (number_of (place_outcome 0 0 l))
-unplaced_at w d (At p) u = absurd u
-unplaced_at w d NotANumber u = refl
-unplaced_at w d Unplaceable u = refl
+pub unplaced_at : (w d : Place → List Float) (l : Loc) (e : LocError) → l ≡ Err e → outcome_at w d l ≡ refused (check_of e)
+unplaced_at w d l e is = rw is refl

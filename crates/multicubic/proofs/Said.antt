@@ -1,21 +1,20 @@
 -- An answer that is the defined one says what that one says.
 use mathlib.Core.Path.{◌≡◌, refl, ap, ◌∙◌}
 use lib.Ieee.{Float}
-use Rattle.multicubic.specs.declared.Outcome.{Outcome}
-use Rattle.multicubic.specs.declared.Outcome.TheVariants.{Accepted, Refused}
-use Rattle.multicubic.specs.declared.Answer.{Answer}
+use Rattle.std.specs.Prelude.{Err, Ok}
+use Rattle.multicubic.specs.Types.{Answer, Outcome}
 use Rattle.multicubic.specs.Answers.{number_of, query_of, axis_of, Says, carried, answer_outcome, value_in, answered}
 
 pub says : {outcome defined : Outcome} → outcome ≡ defined → Says outcome defined
 says e = (ap number_of e, ap query_of e, ap axis_of e)
 
 pub outcome_of_lem : (outcome : Outcome) (x : Float) → answer_outcome (answered outcome x) ≡ outcome
-outcome_of_lem Accepted x = refl
-outcome_of_lem (Refused number query axis) x = refl
+outcome_of_lem (Ok _) x = refl
+outcome_of_lem (Err r) x = refl
 
 carried_of : (outcome : Outcome) (x : Float) → value_in (answered outcome x) ≡ carried outcome x
-carried_of Accepted x = refl
-carried_of (Refused number query axis) x = refl
+carried_of (Ok _) x = refl
+carried_of (Err r) x = refl
 
 -- a value's answer, beside what it is
 pub answer-says : {answer : Answer} (outcome : Outcome) (x : Float) → answer ≡ answered outcome x

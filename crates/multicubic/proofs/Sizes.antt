@@ -2,7 +2,7 @@
 use mathlib.Core.Path.{◌≡◌, refl, sym}
 use mathlib.Core.Bool.{Bool, true, false, ◌||◌}
 use mathlib.Core.List.{List, [], ◌∷◌}
-use Prim.Native.Nat.{ℕ, zero, suc, ◌+◌, ◌-◌, ◌*◌, ◌^◌, ◌≤◌, ◌<◌}
+use Prim.Native.Nat.{ℕ, zero, suc, ◌+◌, ◌*◌, ◌^◌, ◌≤◌, ◌<◌}
 use native.Mathlib.Nat.{mul_assoc, mul-le-mul, pow-suc, le_trans}
 use native.Mathlib.Numerals.{add-one}
 use native.Mathlib.Omega.{arith}
@@ -10,7 +10,9 @@ use lib.Dec.{ltb, lit≤}
 use lib.ListN.{length, get_or, take}
 use lib.Seq.{slice, slice-cons, slice_empty}
 use borrow.Author.Tests.{ltb-false, lt-ltb, le-ltb}
-use Rattle.multicubic.specs.declared.Outcome.TheVariants.{Refused}
+use Rattle.std.specs.Prelude.{Err}
+use Rattle.multicubic.specs.declared.Check.{Check}
+use Rattle.multicubic.specs.Types.{refusal}
 use Rattle.multicubic.specs.Grid.{product, sum, any_over, lowest}
 
 pub or_false : (a b : Bool) → (a || b) ≡ false → (a ≡ false) × (b ≡ false)
@@ -43,12 +45,12 @@ module _ (xs : List ℕ) (n i : ℕ) (h : i < n) (k : n ≤ length xs) where
   pub sum-here : sum (slice i n xs) ≡ get_or xs i 0 + sum (slice (i + 1) n xs)
   sum-here = rw (slice-cons i n xs 0 h k, add-one)
 
--- the lowest axis with a fault, over any test and number
-module _ {A : Type 0} (fault : A → Bool) (number : ℕ) (xs : List A) (d : A) (n i : ℕ) (h : i < n) (k : n ≤ length xs) where
-  pub fault-here : fault (get_or xs i d) ≡ true → lowest number fault i (slice i n xs) ≡ Refused number 0 i
+-- the lowest axis with a fault, over any test and check
+module _ {A : Type 0} (fault : A → Bool) (check : Check) (xs : List A) (d : A) (n i : ℕ) (h : i < n) (k : n ≤ length xs) where
+  pub fault-here : fault (get_or xs i d) ≡ true → lowest check fault i (slice i n xs) ≡ Err (refusal check 0 i)
   fault-here e = rw (slice-cons i n xs d h k, e)
 
-  pub fault-later : fault (get_or xs i d) ≡ false → lowest number fault i (slice i n xs) ≡ lowest number fault (i + 1) (slice (i + 1) n xs)
+  pub fault-later : fault (get_or xs i d) ≡ false → lowest check fault i (slice i n xs) ≡ lowest check fault (i + 1) (slice (i + 1) n xs)
   fault-later e = rw (slice-cons i n xs d h k, e, add-one)
 
 -- ---- products of counts up to 4,096 fit

@@ -1,13 +1,14 @@
 -- Clauses 3.1, 3.4 and 3.9: origin and class from L, for an axis of n entries, where the query is a number. Each kind of axis has its own L.
-use Rattle.std.specs.Prelude.{ℕ, zero, suc, ◌-◌, min, Bool, true, false, cond, List, ℤ, pos, negsuc, ltb, eqb, Float}
+use Rattle.std.specs.Prelude.{ℕ, zero, suc, ◌-◌, min, Bool, true, false, cond, List, ℤ, pos, negsuc, ltb, eqb, Float, Ok, Err}
 use Rattle.std.specs.Float.Ieee.{is_nan}
 use Rattle.multicubic.specs.declared.Saturation.{Saturation}
 use Rattle.multicubic.specs.declared.Saturation.TheVariants.{None, InsideLow, OutsideLow, InsideHigh, OutsideHigh}
 use Rattle.multicubic.specs.declared.Place.{Place}
-use Rattle.multicubic.specs.declared.Loc.{Loc}
-use Rattle.multicubic.specs.declared.Loc.TheVariants.{At, NotANumber, Unplaceable}
+use Rattle.multicubic.specs.declared.Check.{Check}
+use Rattle.multicubic.specs.declared.LocError.TheVariants.{NotANumber}
+use Rattle.multicubic.specs.Types.{Loc}
 use Rattle.multicubic.specs.declared.Marks.{Marks}
-use Rattle.multicubic.specs.Answers.{number_of, place_outcome}
+use Rattle.multicubic.specs.Answers.{check_of}
 use Rattle.multicubic.specs.declared.EdgeMode.{EdgeMode}
 use Rattle.multicubic.specs.declared.EdgeMode.TheVariants.{Cubic, Straight, Held}
 
@@ -34,7 +35,7 @@ place_of n l = record { origin = origin_of n l; class = class_of n l }
 
 -- 3.9: a coordinate that is no number has no place, whatever the axis; this is asked first
 abbrev pub if_number : Float → Loc → Loc
-if_number x loc = cond (is_nan x) NotANumber loc
+if_number x loc = cond (is_nan x) (Err NotANumber) loc
 
 -- what stands in place of a place: past the axis count, and on refusal
 abbrev pub nowhere : Place
@@ -50,7 +51,7 @@ straight_of Cubic = false
 straight_of Straight = true
 straight_of Held = false
 
--- What an axis gives to everything above it, for a query: the number of its refusal, or the place, the four weights and the four
+-- What an axis gives to everything above it, for a query: the check that refuses it, or the place, the four weights and the four
 -- derivative weights.
 pub record Placed : Type 0 where
   pub place : Place
@@ -58,10 +59,9 @@ pub record Placed : Type 0 where
   pub derivatives : List Float
 
 pub data AxisOutcome : Type 0 where
-  refused : ℕ → AxisOutcome
+  refused : Check → AxisOutcome
   placed : Placed → AxisOutcome
 
 abbrev pub outcome_at : (Place → List Float) → (Place → List Float) → Loc → AxisOutcome
-outcome_at weights derivatives NotANumber = refused (number_of (place_outcome 0 0 NotANumber))
-outcome_at weights derivatives Unplaceable = refused (number_of (place_outcome 0 0 Unplaceable))
-outcome_at weights derivatives (At p) = placed (record { place = p; weights = weights p; derivatives = derivatives p })
+outcome_at weights derivatives (Err e) = refused (check_of e)
+outcome_at weights derivatives (Ok p) = placed (record { place = p; weights = weights p; derivatives = derivatives p })

@@ -1,12 +1,13 @@
 // Port of src/multicubic/mod.rs (`Saturation`), and what both kinds of grid share: places, answers and checks 1 to 4.
 #![tactic(auto)]
 
-ghost use Rattle.std.specs.Prelude.{◌≡◌, false, ◌||◌, ◌≤◌, ltb, pos, ◌-ℤ◌, take};
+ghost use Rattle.std.specs.Prelude.{◌≡◌, false, ◌||◌, ◌≤◌, ltb, pos, ◌-ℤ◌, length, take, Err};
+ghost use Rattle.multicubic.specs.declared.Check.TheVariants.{TooFew};
+ghost use Rattle.multicubic.specs.Types.{refusal};
 ghost use Rattle.multicubic.specs.Grid.{product, sum, any_over, lowest, misjoined, size_checks};
 ghost use Rattle.multicubic.specs.Place.{straight_of, place_of};
 ghost use Rattle.multicubic.specs.Internal.{four_nowhere, four_unmarked};
-ghost use Rattle.multicubic.specs.Answers.{answer_outcome, answered, place_outcome};
-ghost use Rattle.multicubic.specs.Same.{as_answer};
+ghost use Rattle.multicubic.specs.Answers.{check_number, check_of, answer_outcome, answered, place_at};
 
 // Where a query lies on one axis.
 #[derive(Clone, Copy)]
@@ -24,19 +25,93 @@ pub struct Place {
     pub class: Saturation,
 }
 
-// What `get_loc` finds.
+// What is looked at, in the order of its numbers.
 #[derive(Clone, Copy)]
-pub enum Loc {
-    At(Place),
+pub enum Check {
+    AxisCount,
+    TooLarge,
+    WrongLength,
+    TooFew,
+    NotRising,
+    Disordered,
+    BatchLength,
+    NoPlace,
+    NoNumber,
+    NotSteep,
+}
+
+impl Check {
+    // The number by which a refusal is told, from 1 on.
+    pub fn number(self) -> u8
+        ensures { result ≡ check_number self }
+    {
+        match self {
+            Check::AxisCount => 1,
+            Check::TooLarge => 2,
+            Check::WrongLength => 3,
+            Check::TooFew => 4,
+            Check::NotRising => 5,
+            Check::Disordered => 6,
+            Check::BatchLength => 7,
+            Check::NoPlace => 8,
+            Check::NoNumber => 9,
+            Check::NotSteep => 10,
+        }
+    }
+
+    // Its refusal of an axis of a query.
+    pub fn at(self, query: usize, axis: usize) -> Refusal
+        ensures { result ≡ refusal self query axis }
+    {
+        Refusal {
+            check: self,
+            query,
+            axis,
+        }
+    }
+}
+
+// The check that refuses, and of which query and axis: 0 where it is of none.
+#[derive(Clone, Copy)]
+pub struct Refusal {
+    pub check: Check,
+    pub query: usize,
+    pub axis: usize,
+}
+
+// The answer of a call without a value.
+pub type Outcome = Result<(), Refusal>;
+
+// A single query's value, or the refusal.
+pub type Answer<T> = Result<T, Refusal>;
+
+// Why a query has no place on an axis.
+#[derive(Clone, Copy)]
+pub enum LocError {
     NotANumber,
     Unplaceable,
 }
 
+impl LocError {
+    // The check that refuses the query.
+    pub fn check(self) -> Check
+        ensures { result ≡ check_of self }
+    {
+        match self {
+            LocError::NotANumber => Check::NoNumber,
+            LocError::Unplaceable => Check::NoPlace,
+        }
+    }
+}
+
+// What `get_loc` finds on one axis.
+pub type Loc = Result<Place, LocError>;
+
 // A regular axis.
 #[derive(Clone, Copy)]
-pub struct Axis {
-    pub start: f64,
-    pub step: f64,
+pub struct Axis<T> {
+    pub start: T,
+    pub step: T,
     pub count: usize,
 }
 
@@ -49,6 +124,18 @@ pub enum EdgeMode {
     Held,
 }
 
+impl EdgeMode {
+    // Whether the Outside classes follow a straight line.
+    pub fn linearize_extrapolation(self) -> bool
+        ensures { result ≡ straight_of self }
+    {
+        match self {
+            EdgeMode::Cubic | EdgeMode::Held => false,
+            EdgeMode::Straight => true,
+        }
+    }
+}
+
 // Past which ends of an axis a query lies.
 #[derive(Clone, Copy)]
 pub struct Marks {
@@ -56,29 +143,17 @@ pub struct Marks {
     pub above: bool,
 }
 
-// A single query's value, or the refusal.
-#[derive(Clone, Copy)]
-pub enum Answer {
-    Value(f64),
-    Refused {
-        number: u8,
-        query: usize,
-        axis: usize,
-    },
+impl Marks {
+    // Whether a query lies past either end.
+    pub fn is_past(self) -> bool
+        ensures { result ≡ (self.below || self.above) }
+    {
+        self.below || self.above
+    }
 }
 
-// The answer of a call without a value.
-#[derive(Clone, Copy)]
-pub enum Outcome {
-    Accepted,
-    Refused {
-        number: u8,
-        query: usize,
-        axis: usize,
-    },
-}
-
-// Where a query lies on every axis: origin 0 and None past the axis count, and on refusal.
+// Where a query lies on every axis: origin 0 and None past the axis count, and on refusal. A refusal's places are promised, as are its gradient and
+// its marks, so that they stand beside the outcome.
 #[derive(Clone, Copy)]
 pub struct PlaceAnswer {
     pub outcome: Outcome,
@@ -87,90 +162,37 @@ pub struct PlaceAnswer {
 
 // A query's gradient: +0 past the axis count, and on refusal.
 #[derive(Clone, Copy)]
-pub struct GradientAnswer {
+pub struct GradientAnswer<T> {
     pub outcome: Outcome,
-    pub gradient: [f64; 4],
+    pub gradient: [T; 4],
 }
 
 // A single answer beside its marks, one pair for each axis: unset past the axis count, and on refusal.
 #[derive(Clone, Copy)]
-pub struct MarkedAnswer {
-    pub answer: Answer,
+pub struct Marked<A> {
+    pub answer: A,
     pub marks: [Marks; 4],
 }
 
-#[derive(Clone, Copy)]
-pub struct MarkedGradient {
-    pub answer: GradientAnswer,
-    pub marks: [Marks; 4],
-}
-
-#[derive(Clone, Copy)]
-pub struct MarkedPlaces {
-    pub answer: PlaceAnswer,
-    pub marks: [Marks; 4],
-}
-
-// The length of the joined axes of a rectilinear grid; a regular grid has none.
-#[derive(Clone, Copy)]
-pub enum AxesLength {
-    Regular,
-    Joined(usize),
-}
-
-// A query's refusal on an axis: 9 where its coordinate is no number, 8 where it is unplaceable.
-pub fn place_outcome(query: usize, axis: usize, loc: Loc) -> Outcome
-    ensures { result ≡ place_outcome query axis loc }
+// A query's place on an axis, or its refusal there.
+pub fn place_at(query: usize, axis: usize, loc: Loc) -> Result<Place, Refusal>
+    ensures { result ≡ place_at query axis loc }
 {
-    match loc {
-        Loc::At(place) => Outcome::Accepted,
-        Loc::NotANumber => Outcome::Refused {
-            number: 9,
-            query,
-            axis,
-        },
-        Loc::Unplaceable => Outcome::Refused {
-            number: 8,
-            query,
-            axis,
-        },
-    }
+    loc.map_err(|error| error.check().at(query, axis))
 }
 
 // The outcome as a value's answer: the refusal, or the value where there is none.
-pub fn answered(outcome: Outcome, value: f64) -> Answer
-    ensures { as_answer result ≡ answered outcome value }
+pub fn answered<T: Copy>(outcome: Outcome, value: T) -> Answer<T>
+    ensures { result ≡ answered outcome value }
 {
-    match outcome {
-        Outcome::Refused {
-            number,
-            query,
-            axis,
-        } => Answer::Refused {
-            number,
-            query,
-            axis,
-        },
-        Outcome::Accepted => Answer::Value(value),
-    }
+    outcome.map(|()| value)
 }
 
 // The outcome of a value's answer.
-pub fn outcome_of(answer: Answer) -> Outcome
-    ensures { result ≡ answer_outcome (as_answer answer) }
+pub fn outcome_of<T: Copy>(answer: Answer<T>) -> Outcome
+    ensures { result ≡ answer_outcome answer }
 {
-    match answer {
-        Answer::Refused {
-            number,
-            query,
-            axis,
-        } => Outcome::Refused {
-            number,
-            query,
-            axis,
-        },
-        Answer::Value(value) => Outcome::Accepted,
-    }
+    answer.map(|_| ())
 }
 
 // The place on an axis of n entries where L is k less 2.
@@ -178,34 +200,18 @@ pub fn place_from(n: usize, k: usize) -> Place
     requires { 4 ≤ n }
     ensures { result ≡ place_of n (pos k -ℤ pos 2) }
 {
-    if k == 0 {
-        return Place {
-            origin: 0,
-            class: Saturation::OutsideLow,
-        };
-    }
-    if k == 1 {
-        return Place {
-            origin: 0,
-            class: Saturation::InsideLow,
-        };
-    }
-    if k < n - 1 {
-        return Place {
-            origin: k - 2,
-            class: Saturation::None,
-        };
-    }
-    if k == n - 1 {
-        return Place {
-            origin: n - 4,
-            class: Saturation::InsideHigh,
-        };
-    }
-    Place {
-        origin: n - 4,
-        class: Saturation::OutsideHigh,
-    }
+    let (origin, class) = if k == 0 {
+        (0, Saturation::OutsideLow)
+    } else if k == 1 {
+        (0, Saturation::InsideLow)
+    } else if k < n - 1 {
+        (k - 2, Saturation::None)
+    } else if k == n - 1 {
+        (n - 4, Saturation::InsideHigh)
+    } else {
+        (n - 4, Saturation::OutsideHigh)
+    };
+    Place { origin, class }
 }
 
 // Origin 0, None, on four axes.
@@ -241,55 +247,27 @@ pub fn unmarked() -> [Marks; 4]
     [neither; 4]
 }
 
-// Whether the Outside classes follow a straight line: the Rust's `linearize_extrapolation`.
-pub fn linearize_extrapolation(mode: EdgeMode) -> bool
-    ensures { result ≡ straight_of mode }
+// Whether one of the counts is over 4,096.
+fn any_over(counts: &[usize]) -> bool
+    ensures { result ≡ any_over counts.now }
 {
-    match mode {
-        EdgeMode::Cubic => false,
-        EdgeMode::Straight => true,
-        EdgeMode::Held => false,
-    }
-}
-
-// Whether a query lies past either end.
-pub fn is_past(marks: Marks) -> bool
-    ensures { result ≡ (marks.below || marks.above) }
-{
-    if marks.below {
-        return true;
-    }
-    marks.above
-}
-
-// Whether one of the first n counts is over 4,096.
-fn any_over(n: usize, counts: [usize; 4]) -> bool
-    requires { n ≤ 4 }
-    ensures { result ≡ any_over (take n counts) }
-{
-    let mut i: usize = 0;
-    while i < n {
-        let count = counts[i];
-        if 4096 < count {
+    for count in counts {
+        if 4096 < *count {
             return true;
         }
-        i += 1;
     }
     false
 }
 
-// The product of the first n counts. It is taken whole: a count of 0 after large ones makes it 0.
-fn product_of(n: usize, counts: [usize; 4]) -> usize
-    requires n_bound { n ≤ 4 }
-    requires counts_value { any_over (take n counts) ≡ false }
-    ensures { result ≡ product (take n counts) }
+// The product of at most four counts. It is taken whole: a count of 0 after large ones makes it 0.
+fn product_of(counts: &[usize]) -> usize
+    requires counts_bound { length counts.now ≤ 4 }
+    requires counts_value { any_over counts.now ≡ false }
+    ensures { result ≡ product counts.now }
 {
     let mut p: usize = 1;
-    let mut i: usize = 0;
-    while i < n {
-        let count = counts[i];
-        p = p * count;
-        i += 1;
+    for count in counts {
+        p *= *count;
     }
     p
 }
@@ -301,83 +279,68 @@ pub fn sum_of(n: usize, counts: [usize; 4]) -> usize
     ensures { result ≡ sum (take n counts) }
 {
     let mut total: usize = 0;
-    let mut i: usize = 0;
-    while i < n {
-        let count = counts[i];
-        total = total + count;
-        i += 1;
+    for count in &counts[..n] {
+        total += *count;
     }
     total
 }
 
-// Check 4: the lowest of the first n axes under 4 entries.
-fn first_short(n: usize, counts: [usize; 4]) -> Outcome
-    requires { n ≤ 4 }
-    ensures { result ≡ lowest 4 (λ c. ltb c 4) 0 (take n counts) }
+// Check 4: the lowest axis under 4 entries.
+fn first_short(counts: &[usize]) -> Outcome
+    ensures { result ≡ lowest TooFew (λ c. ltb c 4) 0 counts.now }
 {
-    let mut i: usize = 0;
-    while i < n {
-        let count = counts[i];
-        if count < 4 {
-            return Outcome::Refused {
-                number: 4,
-                query: 0,
-                axis: i,
-            };
+    for (axis, count) in counts.iter().enumerate() {
+        if *count < 4 {
+            return Err(Check::TooFew.at(0, axis));
         }
-        i += 1;
     }
-    Outcome::Accepted
+    Ok(())
 }
 
-// Whether the joined axes' length is another than the sum of counts.
-fn misjoined(axes: AxesLength, total: usize) -> bool
+// Whether the joined axes' length is another than the sum of counts; a regular grid has none.
+fn misjoined(axes: Option<usize>, total: usize) -> bool
     ensures { result ≡ misjoined axes total }
 {
     match axes {
-        AxesLength::Regular => false,
-        AxesLength::Joined(length) => length != total,
+        None => false,
+        Some(length) => length != total,
     }
 }
 
-fn refused(number: u8) -> Outcome
-    ensures { result ≡ Outcome.Refused number 0 0 }
+fn refused(check: Check) -> Outcome
+    ensures { result ≡ Err (refusal check 0 0) }
 {
-    Outcome::Refused {
-        number,
-        query: 0,
-        axis: 0,
-    }
+    Err(check.at(0, 0))
 }
 
-// Checks 1 to 4: the counts of an axis_count axes, the length of the values and that of the joined axes.
+// Checks 1 to 4: the counts of an axis_count axes, the length of the values and that of the joined axes of a rectilinear grid.
 pub fn check_sizes(
     axis_count: usize,
     counts: [usize; 4],
     values: usize,
-    axes: AxesLength,
+    axes: Option<usize>,
 ) -> Outcome
     ensures { result ≡ size_checks axis_count counts values axes }
 {
     if axis_count == 0 {
-        return refused(1);
+        return refused(Check::AxisCount);
     }
     if 4 < axis_count {
-        return refused(1);
+        return refused(Check::AxisCount);
     }
-    if any_over(axis_count, counts) {
-        return refused(2);
+    if any_over(&counts[..axis_count]) {
+        return refused(Check::TooLarge);
     }
-    let size = product_of(axis_count, counts);
+    let size = product_of(&counts[..axis_count]);
     if 1048576 < size {
-        return refused(2);
+        return refused(Check::TooLarge);
     }
     if values != size {
-        return refused(3);
+        return refused(Check::WrongLength);
     }
     let total = sum_of(axis_count, counts);
     if misjoined(axes, total) {
-        return refused(3);
+        return refused(Check::WrongLength);
     }
-    first_short(axis_count, counts)
+    first_short(&counts[..axis_count])
 }

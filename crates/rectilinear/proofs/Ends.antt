@@ -7,9 +7,10 @@ use Prim.Native.Nat.{ℕ, ◌-◌, ◌≤◌}
 use native.Mathlib.Omega.{arith}
 use lib.ListN.{length, take, drop}
 use lib.Ieee.{Float, Format}
-use Rattle.multicubic.specs.declared.AxesLength.TheVariants.{Joined}
+use Rattle.std.specs.Prelude.{Some}
+use Rattle.multicubic.specs.declared.Check.TheVariants.{Disordered}
+use Rattle.multicubic.specs.Types.{accepted}
 use Rattle.multicubic.specs.declared.EdgeMode.{EdgeMode}
-use Rattle.multicubic.specs.declared.Outcome.TheVariants.{Accepted}
 use Rattle.multicubic.specs.Grid.{sum, size_checks}
 use Rattle.multicubic.proofs.Passed.{then_accepted}
 use Rattle.rectilinear_order.specs.Grid.{axes_of, disorder, order_checks}
@@ -34,13 +35,13 @@ ends_of f mode (c ∷ cs) joined e long sound =
     let rises = entries_rise part sound.0 0 (length part - 1) (omega arith) (omega arith) in
     (edge_ends mode (λ straight. grid_axis f straight part) (λ straight. rises), ends_of f mode cs (drop c joined) (rest-length c cs joined e) long.1 sound.1)
 
-module _ (f : Format) (n : ℕ) (counts : List ℕ) (joined vals : List Float) (mode : EdgeMode) (e : (grid_of f n counts joined vals mode).checked ≡ Accepted) where
+module _ (f : Format) (n : ℕ) (counts : List ℕ) (joined vals : List Float) (mode : EdgeMode) (e : (grid_of f n counts joined vals mode).checked ≡ accepted) where
   ends : All EndsInOrder (axes_in f mode n counts joined)
   ends =
       let parts = axes_of (take n counts) joined in
-      let checked = then_accepted (size_checks n counts (length vals) (Joined (length joined))) (order_checks parts) e in
+      let checked = then_accepted (size_checks n counts (length vals) (Some (length joined))) (order_checks parts) e in
       ends_of f mode (take n counts) joined (joined_length n counts joined (length vals) e) (all-long (take n counts) (passed n counts joined (length vals) e).long)
-      (all_sound 6 disorder 0 parts (six-passed parts checked.1))
+      (all_sound Disordered disorder 0 parts (six-passed parts checked.1))
 
   pub held-once : All (λ (g : GridAxis). (given : Float) → hold g (hold g given) ≡ hold g given) (axes_in f mode n counts joined)
   held-once = holds_once (axes_in f mode n counts joined) ends
@@ -50,7 +51,7 @@ module _ (f : Format) (n : ℕ) (counts : List ℕ) (joined vals : List Float) (
 
 -- where both answer a query, neither the setting nor the values have a say in its marks
 pub same_marks : (f : Format) (n : ℕ) (counts : List ℕ) (joined vals vals' : List Float) (mode mode' : EdgeMode) (query : ℕ → Float)
-    → outcome_of (grid_of f n counts joined vals mode) query ≡ Accepted → outcome_of (grid_of f n counts joined vals' mode') query ≡ Accepted
+    → outcome_of (grid_of f n counts joined vals mode) query ≡ accepted → outcome_of (grid_of f n counts joined vals' mode') query ≡ accepted
     → mark_answer (grid_of f n counts joined vals mode) query ≡ mark_answer (grid_of f n counts joined vals' mode') query
 same_marks f n counts joined vals vals' mode mode' query e e' =
     marks_alike (grid_of f n counts joined vals mode) (grid_of f n counts joined vals' mode') query e e'

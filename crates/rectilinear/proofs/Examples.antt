@@ -10,10 +10,11 @@ use lib.ListN.{length, get_or, take}
 use lib.Ieee.{Float, nan, fin, Format, binary32, binary64, sub, lt, le, eq, fits, is_nan}
 use lib.Ieee.Fits.{and_l, and_r}
 use lib.Ieee.Scale.{finite}
+use Rattle.multicubic.specs.declared.Check.TheVariants.{NotSteep}
 use Rattle.multicubic.specs.declared.EdgeMode.{EdgeMode}
 use Rattle.multicubic.specs.declared.EdgeMode.TheVariants.{Cubic, Straight, Held}
-use Rattle.multicubic.specs.declared.Outcome.TheVariants.{Accepted, Refused}
-use Rattle.multicubic.specs.declared.Answer.TheVariants.{Value}
+use Rattle.multicubic.specs.Types.{accepted, refusal}
+use Rattle.std.specs.Prelude.{Ok, Err}
 use Rattle.multicubic.specs.Grid.{size_checks}
 use Rattle.rectilinear_order.specs.Grid.{axes_of, not_rising, disorder, flat}
 use Rattle.rectilinear_axis.specs.Nodes.{Premises}
@@ -57,7 +58,7 @@ unfolding le lt eq sub
 premises binary32 = (bounded binary32 (take 5 joined) tt tt, (bounded binary32 (take 4 (lib.ListN.drop 5 joined)) tt tt, tt))
 premises binary64 = (bounded binary64 (take 5 joined) tt tt, (bounded binary64 (take 4 (lib.ListN.drop 5 joined)) tt tt, tt))
 
-taken : (f : Format) (mode : EdgeMode) → (grid_of f 2 counts joined vals mode).checked ≡ Accepted
+taken : (f : Format) (mode : EdgeMode) → (grid_of f 2 counts joined vals mode).checked ≡ accepted
 unfolding size_checks not_rising disorder flat lt eq is_nan
 taken f mode = refl
 
@@ -68,7 +69,7 @@ at f Cubic = (lit< tt, tt, (lit< tt, tt, tt))
 at f Straight = (lit< tt, tt, (lit< tt, tt, tt))
 at f Held = (lit< tt, tt, (lit< tt, tt, tt))
 
-pub met : (f : Format) (mode : EdgeMode) → (v : Float) × (value_answer f (grid_of f 2 counts joined vals mode) (λ a. get_or query a nan) ≡ Value v) × T (eq v (stored (grid_of f 2 counts joined vals mode) (0 ∷ 2 ∷ [])))
+pub met : (f : Format) (mode : EdgeMode) → (v : Float) × (value_answer f (grid_of f 2 counts joined vals mode) (λ a. get_or query a nan) ≡ Ok v) × T (eq v (stored (grid_of f 2 counts joined vals mode) (0 ∷ 2 ∷ [])))
 unfolding fits
 met binary32 mode = node binary32 2 counts joined (each (fits binary32) joined tt) (premises binary32) (0 ∷ 2 ∷ []) (λ a. get_or query a nan) (all_fit binary32 query tt) vals mode (taken binary32 mode) (each finite vals tt) (each (fits binary32) vals tt) (at binary32 mode)
 met binary64 mode = node binary64 2 counts joined (each (fits binary64) joined tt) (premises binary64) (0 ∷ 2 ∷ []) (λ a. get_or query a nan) (all_fit binary64 query tt) vals mode (taken binary64 mode) (each finite vals tt) (each (fits binary64) vals tt) (at binary64 mode)
@@ -77,10 +78,10 @@ met binary64 mode = node binary64 2 counts joined (each (fits binary64) joined t
 abbrev flat_joined : List Float
 flat_joined = take 8 joined ++ fin false 1 (pos 2) ∷ []
 
-pub ten_before_seven : (f : Format) (mode : EdgeMode) → grad_outcome f (grid_of f 2 counts flat_joined vals mode) [] (nan ∷ []) ≡ Refused 10 0 1
+pub ten_before_seven : (f : Format) (mode : EdgeMode) → grad_outcome f (grid_of f 2 counts flat_joined vals mode) [] (nan ∷ []) ≡ Err (refusal NotSteep 0 1)
 unfolding size_checks not_rising disorder flat lt eq is_nan
 ten_before_seven f mode = refl
 
-pub ten_before_nine : (f : Format) (mode : EdgeMode) → outcome_of (grid_of f 2 counts flat_joined vals mode) (λ a. nan) ≡ Refused 10 0 1
+pub ten_before_nine : (f : Format) (mode : EdgeMode) → outcome_of (grid_of f 2 counts flat_joined vals mode) (λ a. nan) ≡ Err (refusal NotSteep 0 1)
 unfolding size_checks not_rising disorder flat lt eq is_nan
 ten_before_nine f mode = refl

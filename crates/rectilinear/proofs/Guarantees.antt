@@ -5,10 +5,10 @@ use Prim.Native.Nat.{ℕ, ◌≤◌}
 use lib.Dec.{T}
 use lib.ListN.{length, take}
 use lib.Ieee.{Float, Format, eq, fits}
+use Rattle.std.specs.Prelude.{Ok}
 use Rattle.multicubic.specs.declared.EdgeMode.{EdgeMode}
 use Rattle.multicubic.specs.declared.EdgeMode.TheVariants.{Cubic, Held}
-use Rattle.multicubic.specs.declared.Outcome.TheVariants.{Accepted}
-use Rattle.multicubic.specs.declared.Answer.TheVariants.{Value}
+use Rattle.multicubic.specs.Types.{accepted}
 use Rattle.rectilinear_order.specs.Grid.{axes_of}
 use Rattle.grid.specs.Query.{GridAxis, Grid, value_answer, place_answer}
 use Rattle.grid.specs.Nodes.{AtIndex, stored, FiniteValues, Fits}
@@ -21,7 +21,7 @@ use Rattle.rectilinear.proofs.Laws.{held_axes, node_laws}
 use Rattle.rectilinear_query.proofs.Locating.{axes-long}
 
 module _ (f : Format) (n : ℕ) (counts : List ℕ) (joined : List Float) (entries : Fits f joined) (premises : AllPremises f (axes_of (take n counts) joined)) (is : List ℕ) (query : ℕ → Float) (typed : (a : ℕ) → T (fits f (query a))) where
-  pub node-case : (vals : List Float) (mode : EdgeMode) → (grid_of f n counts joined vals mode).checked ≡ Accepted → FiniteValues vals → Fits f vals → AtIndex 0 (grid_of f n counts joined vals mode).axes is query → NodeCase f (grid_of f n counts joined vals mode) is query
+  pub node-case : (vals : List Float) (mode : EdgeMode) → (grid_of f n counts joined vals mode).checked ≡ accepted → FiniteValues vals → Fits f vals → AtIndex 0 (grid_of f n counts joined vals mode).axes is query → NodeCase f (grid_of f n counts joined vals mode) is query
   node-case vals mode accepted whole held at = record {
     sized = sized f n counts joined vals mode accepted;
     whole = whole;
@@ -30,8 +30,8 @@ module _ (f : Format) (n : ℕ) (counts : List ℕ) (joined : List Float) (entri
   }
 
   -- clause 8.3, in every setting
-  pub node : (vals : List Float) (mode : EdgeMode) → (grid_of f n counts joined vals mode).checked ≡ Accepted → FiniteValues vals → Fits f vals → AtIndex 0 (grid_of f n counts joined vals mode).axes is query
-      → (v : Float) × (value_answer f (grid_of f n counts joined vals mode) query ≡ Value v) × T (eq v (stored (grid_of f n counts joined vals mode) is))
+  pub node : (vals : List Float) (mode : EdgeMode) → (grid_of f n counts joined vals mode).checked ≡ accepted → FiniteValues vals → Fits f vals → AtIndex 0 (grid_of f n counts joined vals mode).axes is query
+      → (v : Float) × (value_answer f (grid_of f n counts joined vals mode) query ≡ Ok v) × T (eq v (stored (grid_of f n counts joined vals mode) is))
   node vals mode accepted whole held at = node-answer f (grid_of f n counts joined vals mode) is query accepted (node-case vals mode accepted whole held at)
 
 -- held, a query is answered as its coordinates as used are in the cubic setting
@@ -46,7 +46,7 @@ module _ (n : ℕ) (counts : List ℕ) (joined vals : List Float) (f : Format) (
   held_place = ap (λ (g : Grid). place_answer g query) (sym held-grid) ∙ place-as-used (grid_of f n counts joined vals Cubic) query used u
 
 -- two tables on the same axes, with the same setting
-pub alike : (f : Format) (n : ℕ) (counts : List ℕ) (joined vals vals' : List Float) (mode : EdgeMode) → (grid_of f n counts joined vals mode).checked ≡ Accepted → (grid_of f n counts joined vals' mode).checked ≡ Accepted → Alike (grid_of f n counts joined vals mode) (grid_of f n counts joined vals' mode)
+pub alike : (f : Format) (n : ℕ) (counts : List ℕ) (joined vals vals' : List Float) (mode : EdgeMode) → (grid_of f n counts joined vals mode).checked ≡ accepted → (grid_of f n counts joined vals' mode).checked ≡ accepted → Alike (grid_of f n counts joined vals mode) (grid_of f n counts joined vals' mode)
 alike f n counts joined vals vals' mode taken taken' = record { taken = taken; taken' = taken'; count = refl; axes = refl }
 
 -- as many axes as the axis count

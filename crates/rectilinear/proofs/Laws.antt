@@ -11,7 +11,7 @@ use lib.Seq.{get_or-take, get_or-drop}
 use lib.Ieee.{Float, nan, Format, fits}
 use Rattle.multicubic.specs.declared.EdgeMode.{EdgeMode}
 use Rattle.multicubic.specs.declared.EdgeMode.TheVariants.{Cubic, Held}
-use Rattle.multicubic.specs.declared.Outcome.TheVariants.{Accepted}
+use Rattle.multicubic.specs.Types.{accepted}
 use Rattle.multicubic.specs.Grid.{sum}
 use Rattle.rectilinear_order.specs.Grid.{axes_of}
 use Rattle.rectilinear_axis.specs.Nodes.{Premises}
@@ -75,7 +75,7 @@ pub held_axes : (f : Format) (axes : List (List Float)) → map held_axis (grid_
 held_axes f [] = refl
 held_axes f (g ∷ axes) = ap (λ (gs : List GridAxis). axis_in f Held g ∷ gs) (held_axes f axes)
 
-module _ (f : Format) (n : ℕ) (counts : List ℕ) (joined vals : List Float) (mode : EdgeMode) (e : (grid_of f n counts joined vals mode).checked ≡ Accepted) (fit : Fits f joined) (premises : AllPremises f (axes_of (take n counts) joined)) where
+module _ (f : Format) (n : ℕ) (counts : List ℕ) (joined vals : List Float) (mode : EdgeMode) (e : (grid_of f n counts joined vals mode).checked ≡ accepted) (fit : Fits f joined) (premises : AllPremises f (axes_of (take n counts) joined)) where
   total : length joined ≡ sum (take n counts)
   total = joined_length n counts joined (length vals) e
 

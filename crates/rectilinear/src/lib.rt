@@ -4,7 +4,6 @@
 ghost use Rattle.std.specs.Prelude.{◌≡◌, length};
 ghost use Rattle.std.specs.Float.{binary64};
 ghost use Rattle.multicubic.specs.Answers.{Says, answer_outcome, value_in};
-ghost use Rattle.multicubic.specs.Same.{as_answer};
 ghost use Rattle.grid.specs.Query.{find, found_outcome, outcome_of, at, place_answer, value_answer, value_carried, gradient_answer, mark_answer};
 ghost use Rattle.grid.specs.Internal.{Located, gradient_to};
 ghost use Rattle.rectilinear_query.specs.Grid.{checks_of, axes_in, grid_of};
@@ -12,8 +11,8 @@ ghost use Rattle.rectilinear_query.specs.Internal.{Taken, Ready};
 
 use grid::Quantity;
 use multicubic::{
-    Answer, AxesLength, EdgeMode, GradientAnswer, Loc, MarkedAnswer, MarkedGradient, MarkedPlaces,
-    Outcome, PlaceAnswer, answered, check_sizes, nowhere, outcome_of, place_outcome, unplaced,
+    Answer, EdgeMode, GradientAnswer, Marked, Outcome, PlaceAnswer, check_sizes, nowhere,
+    outcome_of, place_at, unplaced,
 };
 use rectilinear_axis::hold;
 use rectilinear_order::check_order;
@@ -25,16 +24,8 @@ pub fn new(axis_count: usize, counts: [usize; 4], axes: &[f64], vals: &[f64]) ->
     ensures value { result ≡ checks_of axis_count counts axes.now (length vals.now) }
     ensures says { Says result (checks_of axis_count counts axes.now (length vals.now)) }
 {
-    let sizes = check_sizes(
-        axis_count,
-        counts,
-        vals.len(),
-        AxesLength::Joined(axes.len()),
-    );
-    match sizes {
-        Outcome::Refused { .. } => sizes,
-        Outcome::Accepted => check_order(axis_count, counts, axes),
-    }
+    check_sizes(axis_count, counts, vals.len(), Some(axes.len()))?;
+    check_order(axis_count, counts, axes)
 }
 
 // A query's place on every axis, or the refusal of the lowest axis that refuses it, 9 or 8.
@@ -50,25 +41,20 @@ fn locate(
 {
     let mut places = nowhere();
     let mut start: usize = 0;
-    let mut i: usize = 0;
-    while i < axis_count {
+    for i in 0..axis_count {
         let end = start + counts[i];
         let given = x[i];
         let entries = &axes[start..end];
         let replaced = replaced_at(entries, given, mode);
         let used = hold(entries, given, replaced);
-        let loc = rectilinear_axis::get_loc(entries, used);
-        let place = match loc {
-            Loc::At(place) => place,
-            Loc::NotANumber => return unplaced(place_outcome(0, i, loc)),
-            Loc::Unplaceable => return unplaced(place_outcome(0, i, loc)),
-        };
-        places[i] = place;
+        match place_at(0, i, rectilinear_axis::get_loc(entries, used)) {
+            Ok(place) => places[i] = place,
+            Err(refusal) => return unplaced(Err(refusal)),
+        }
         start = end;
-        i += 1;
     }
     PlaceAnswer {
-        outcome: Outcome::Accepted,
+        outcome: Ok(()),
         places,
     }
 }
@@ -86,10 +72,9 @@ fn find_place(
     ensures places_value { result.places ≡ place_answer (grid_of binary64 axis_count counts axes.now vals.now mode) (at x) }
     ensures says { Says result.outcome (outcome_of (grid_of binary64 axis_count counts axes.now vals.now mode) (at x)) }
 {
-    let checked = new(axis_count, counts, axes, vals);
-    match checked {
-        Outcome::Refused { .. } => unplaced(checked),
-        Outcome::Accepted => locate(axis_count, counts, axes, mode, x),
+    match new(axis_count, counts, axes, vals) {
+        Err(refusal) => unplaced(Err(refusal)),
+        Ok(()) => locate(axis_count, counts, axes, mode, x),
     }
 }
 
@@ -101,27 +86,24 @@ fn find_value(
     vals: &[f64],
     mode: EdgeMode,
     x: [f64; 4],
-) -> Answer
-    ensures result_value { as_answer result ≡ value_answer binary64 (grid_of binary64 axis_count counts axes.now vals.now mode) (at x) }
-    ensures says { Says (answer_outcome (as_answer result)) (outcome_of (grid_of binary64 axis_count counts axes.now vals.now mode) (at x)) }
-    ensures result_value_2 { value_in (as_answer result) ≡ value_carried binary64 (grid_of binary64 axis_count counts axes.now vals.now mode) (at x) }
+) -> Answer<f64>
+    ensures result_value { result ≡ value_answer binary64 (grid_of binary64 axis_count counts axes.now vals.now mode) (at x) }
+    ensures says { Says (answer_outcome result) (outcome_of (grid_of binary64 axis_count counts axes.now vals.now mode) (at x)) }
+    ensures result_value_2 { value_in result ≡ value_carried binary64 (grid_of binary64 axis_count counts axes.now vals.now mode) (at x) }
 {
-    let checked = new(axis_count, counts, axes, vals);
-    match checked {
-        Outcome::Refused { .. } => answered(checked, 0.0),
-        Outcome::Accepted => answer_at(
-            axis_count,
-            counts,
-            axes,
-            vals,
-            mode,
-            strides(axis_count, counts),
-            &x,
-            1,
-            0,
-            Quantity::Value,
-        ),
-    }
+    new(axis_count, counts, axes, vals)?;
+    answer_at(
+        axis_count,
+        counts,
+        axes,
+        vals,
+        mode,
+        strides(axis_count, counts),
+        &x,
+        1,
+        0,
+        Quantity::Value,
+    )
 }
 
 // The gradient on a grid that is taken, component by component.
@@ -133,15 +115,14 @@ fn gradient_at(
     mode: EdgeMode,
     strides: [usize; 4],
     x: [f64; 4],
-) -> GradientAnswer
+) -> GradientAnswer<f64>
     requires { Ready axis_count counts axes.now (length vals.now) strides }
     ensures outcome_value { result.outcome ≡ found_outcome 0 (find 0 (axes_in binary64 mode axis_count counts axes.now) (at x)) }
     ensures gradient_value { result.gradient ≡ gradient_to binary64 (axes_in binary64 mode axis_count counts axes.now) vals.now
         (find 0 (axes_in binary64 mode axis_count counts axes.now) (at x)) }
 {
     let mut gradient = [0.0; 4];
-    let mut d: usize = 0;
-    while d < axis_count {
+    for d in 0..axis_count {
         let component = answer_at(
             axis_count,
             counts,
@@ -155,20 +136,17 @@ fn gradient_at(
             Quantity::Component(d),
         );
         match component {
-            Answer::Refused { .. } => {
+            Ok(v) => gradient[d] = v,
+            Err(refusal) => {
                 return GradientAnswer {
-                    outcome: outcome_of(component),
+                    outcome: Err(refusal),
                     gradient: [0.0; 4],
                 };
             }
-            Answer::Value(v) => {
-                gradient[d] = v;
-            }
         }
-        d += 1;
     }
     GradientAnswer {
-        outcome: Outcome::Accepted,
+        outcome: Ok(()),
         gradient,
     }
 }
@@ -181,18 +159,17 @@ fn find_gradient(
     vals: &[f64],
     mode: EdgeMode,
     x: [f64; 4],
-) -> GradientAnswer
+) -> GradientAnswer<f64>
     ensures outcome_value { result.outcome ≡ outcome_of (grid_of binary64 axis_count counts axes.now vals.now mode) (at x) }
     ensures gradient_value { result.gradient ≡ gradient_answer binary64 (grid_of binary64 axis_count counts axes.now vals.now mode) (at x) }
     ensures says { Says result.outcome (outcome_of (grid_of binary64 axis_count counts axes.now vals.now mode) (at x)) }
 {
-    let checked = new(axis_count, counts, axes, vals);
-    match checked {
-        Outcome::Refused { .. } => GradientAnswer {
-            outcome: checked,
+    match new(axis_count, counts, axes, vals) {
+        Err(refusal) => GradientAnswer {
+            outcome: Err(refusal),
             gradient: [0.0; 4],
         },
-        Outcome::Accepted => gradient_at(
+        Ok(()) => gradient_at(
             axis_count,
             counts,
             axes,
@@ -212,7 +189,7 @@ pub fn get_loc(
     vals: &[f64],
     mode: EdgeMode,
     x: [f64; 4],
-) -> MarkedPlaces
+) -> Marked<PlaceAnswer>
     ensures outcome_value { result.answer.outcome ≡ outcome_of (grid_of binary64 axis_count counts axes.now vals.now mode) (at x) }
     ensures places_value { result.answer.places ≡ place_answer (grid_of binary64 axis_count counts axes.now vals.now mode) (at x) }
     ensures marks_value { result.marks ≡ mark_answer (grid_of binary64 axis_count counts axes.now vals.now mode) (at x) }
@@ -221,7 +198,7 @@ pub fn get_loc(
     let answer = find_place(axis_count, counts, axes, vals, mode, x);
     let outcome = answer.outcome;
     let marks = marks_of(outcome, axis_count, counts, axes, x);
-    MarkedPlaces { answer, marks }
+    Marked { answer, marks }
 }
 
 // The value at a query, or the refusal. Of a value that is a NaN the contract says that it is one, and leaves its payload open.
@@ -232,15 +209,15 @@ pub fn interp_one(
     vals: &[f64],
     mode: EdgeMode,
     x: [f64; 4],
-) -> MarkedAnswer
-    ensures answer_value { as_answer result.answer ≡ value_answer binary64 (grid_of binary64 axis_count counts axes.now vals.now mode) (at x) }
+) -> Marked<Answer<f64>>
+    ensures answer_value { result.answer ≡ value_answer binary64 (grid_of binary64 axis_count counts axes.now vals.now mode) (at x) }
     ensures marks_value { result.marks ≡ mark_answer (grid_of binary64 axis_count counts axes.now vals.now mode) (at x) }
-    ensures says { Says (answer_outcome (as_answer result.answer)) (outcome_of (grid_of binary64 axis_count counts axes.now vals.now mode) (at x)) }
-    ensures answer_value_2 { value_in (as_answer result.answer) ≡ value_carried binary64 (grid_of binary64 axis_count counts axes.now vals.now mode) (at x) }
+    ensures says { Says (answer_outcome result.answer) (outcome_of (grid_of binary64 axis_count counts axes.now vals.now mode) (at x)) }
+    ensures answer_value_2 { value_in result.answer ≡ value_carried binary64 (grid_of binary64 axis_count counts axes.now vals.now mode) (at x) }
 {
     let answer = find_value(axis_count, counts, axes, vals, mode, x);
     let marks = marks_of(outcome_of(answer), axis_count, counts, axes, x);
-    MarkedAnswer { answer, marks }
+    Marked { answer, marks }
 }
 
 // The gradient at a query, or the refusal. Of a component that is a NaN the contract says that it is one, and leaves its payload open.
@@ -251,7 +228,7 @@ pub fn interp_one_grad(
     vals: &[f64],
     mode: EdgeMode,
     x: [f64; 4],
-) -> MarkedGradient
+) -> Marked<GradientAnswer<f64>>
     ensures outcome_value { result.answer.outcome ≡ outcome_of (grid_of binary64 axis_count counts axes.now vals.now mode) (at x) }
     ensures gradient_value { result.answer.gradient ≡ gradient_answer binary64 (grid_of binary64 axis_count counts axes.now vals.now mode) (at x) }
     ensures marks_value { result.marks ≡ mark_answer (grid_of binary64 axis_count counts axes.now vals.now mode) (at x) }
@@ -260,5 +237,5 @@ pub fn interp_one_grad(
     let answer = find_gradient(axis_count, counts, axes, vals, mode, x);
     let outcome = answer.outcome;
     let marks = marks_of(outcome, axis_count, counts, axes, x);
-    MarkedGradient { answer, marks }
+    Marked { answer, marks }
 }

@@ -16,7 +16,7 @@ use Rattle.ieee.proofs.ZeroOne.{Same}
 use Rattle.ieee.proofs.Cancel.{eq→same}
 use Rattle.ieee.proofs.Gap.{within}
 use Rattle.ieee.proofs.Nan.{eq_number}
-use Rattle.multicubic.specs.declared.Loc.TheVariants.{At}
+use Rattle.std.specs.Prelude.{Ok}
 use Rattle.multicubic.specs.declared.Saturation.{Saturation}
 use Rattle.multicubic.specs.declared.Saturation.TheVariants.{None, InsideLow, OutsideLow, InsideHigh}
 use Rattle.multicubic.specs.declared.Place.{Place}
@@ -95,7 +95,7 @@ module _ (f : Format) (straight : Bool) (g : List Float) (four : 4 ≤ length g)
           derivatives = derivatives_at f g straight x place;
         };
         is = ap (outcome_at (weights_at f g straight x) (derivatives_at f g straight x))
-            (of_number x _ (eq_number x (get_or g i nan) q) ∙ ap (λ (k : ℕ). At (place_at k)) (counted f g four held gaps x p i I at));
+            (of_number x _ (eq_number x (get_or g i nan) q) ∙ ap (λ (k : ℕ). Ok (place_at k)) (counted f g four held gaps x p i I at));
         place_is = refl;
         low = r.0;
         row = r.1;

@@ -2,7 +2,7 @@
 #![tactic(auto)]
 
 ghost use Rattle.std.specs.Prelude.{◌≡◌, false, cond, ◌+◌, ◌-◌, ◌*◌, ◌≤◌, ◌<◌, length, get_or};
-ghost use Rattle.std.specs.Float.{binary64, nan};
+ghost use Rattle.std.specs.Float.{nan};
 ghost use Rattle.std.specs.Float.Ieee.{lt};
 ghost use Rattle.rectilinear_order.specs.Grid.{disorder};
 ghost use Rattle.multicubic.specs.Answers.{number_of, place_outcome, place_in};
@@ -10,27 +10,27 @@ ghost use Rattle.rectilinear_axis.specs.Place.{count_below, loc_of, loc_number, 
 ghost use Rattle.rectilinear_axis.specs.Internal.{Test, Forward};
 ghost use Rattle.rectilinear_axis.specs.Weights.{weights_of, derivatives_of, cell_of, weights_at, derivatives_at};
 
-use interp_math::{hermite_basis, hermite_basis_derivative, scale_weights};
-use multicubic::{Loc, Marks, Place, Saturation, place_from};
+use interp_math::{Real, hermite_basis, hermite_basis_derivative, scale_weights};
+use multicubic::{Loc, LocError, Marks, Place, Saturation, place_from};
 use rectilinear_weights::{
     high_weight_derivatives, high_weights, interior, low_weight_derivatives, low_weights,
 };
 
 // 1 where the entry is below v, else 0: as a number, so that the search's next step is no branch.
-fn entry_below(grid: &[f64], at: usize, v: f64) -> usize
+fn entry_below<T: Real>(grid: &[T], at: usize, v: T) -> usize
     requires at_in_bounds { at < length grid.now }
-    requires grid_value { disorder grid.now ≡ false }
-    ensures { Test result at (count_below v grid.now) }
+    requires grid_value { disorder (T.floats grid.now) ≡ false }
+    ensures { Test result at (count_below (T.float v) (T.floats grid.now)) }
 {
     (grid[at] < v) as usize
 }
 
 // lo, forward by as many of its next three quarters as end below v.
-fn forward(grid: &[f64], lo: usize, q: usize, v: f64) -> usize
+fn forward<T: Real>(grid: &[T], lo: usize, q: usize, v: T) -> usize
     requires q_in_bounds { lo + 3 * q < length grid.now }
-    requires grid_value { disorder grid.now ≡ false }
-    requires lo_bound { lo ≤ count_below v grid.now }
-    ensures { Forward result lo q (count_below v grid.now) }
+    requires grid_value { disorder (T.floats grid.now) ≡ false }
+    requires lo_bound { lo ≤ count_below (T.float v) (T.floats grid.now) }
+    ensures { Forward result lo q (count_below (T.float v) (T.floats grid.now)) }
 {
     let below = entry_below(grid, lo + q, v)
         + entry_below(grid, lo + 2 * q, v)
@@ -39,26 +39,24 @@ fn forward(grid: &[f64], lo: usize, q: usize, v: f64) -> usize
 }
 
 // The number of entries below v, which is at least lo and at most lo + size.
-fn count_from(grid: &[f64], lo: usize, size: usize, v: f64) -> usize
+fn count_from<T: Real>(grid: &[T], lo: usize, size: usize, v: T) -> usize
     requires size_in_bounds { lo + size ≤ length grid.now }
-    requires grid_value { disorder grid.now ≡ false }
-    requires lo_bound { lo ≤ count_below v grid.now }
-    requires grid_bound { count_below v grid.now ≤ lo + size }
-    ensures { result ≡ count_below v grid.now }
+    requires grid_value { disorder (T.floats grid.now) ≡ false }
+    requires lo_bound { lo ≤ count_below (T.float v) (T.floats grid.now) }
+    requires grid_bound { count_below (T.float v) (T.floats grid.now) ≤ lo + size }
+    ensures { result ≡ count_below (T.float v) (T.floats grid.now) }
 {
     let mut n = lo;
-    let mut k: usize = 0;
-    while k < size {
-        n = n + entry_below(grid, lo + k, v);
-        k += 1;
+    for k in 0..size {
+        n += entry_below(grid, lo + k, v);
     }
     n
 }
 
 // The number of entries below v, by quarters.
-fn partition_point(grid: &[f64], v: f64) -> usize
-    requires { disorder grid.now ≡ false }
-    ensures { result ≡ count_below v grid.now }
+fn partition_point<T: Real>(grid: &[T], v: T) -> usize
+    requires { disorder (T.floats grid.now) ≡ false }
+    ensures { result ≡ count_below (T.float v) (T.floats grid.now) }
 {
     let mut lo: usize = 0;
     let mut size = grid.len();
@@ -71,25 +69,25 @@ fn partition_point(grid: &[f64], v: f64) -> usize
 }
 
 // The place of v.
-pub fn get_loc(grid: &[f64], v: f64) -> Loc
+pub fn get_loc<T: Real>(grid: &[T], v: T) -> Loc
     requires in_bounds { 4 ≤ length grid.now }
-    requires grid_value { disorder grid.now ≡ false }
-    ensures value { result ≡ loc_of grid.now v }
-    ensures result_value { number_of (place_outcome 0 0 result) ≡ loc_number v }
-    ensures result_value_2 { place_in result ≡ loc_place grid.now v }
+    requires grid_value { disorder (T.floats grid.now) ≡ false }
+    ensures value { result ≡ loc_of (T.floats grid.now) (T.float v) }
+    ensures result_value { number_of (place_outcome 0 0 result) ≡ loc_number (T.float v) }
+    ensures result_value_2 { place_in result ≡ loc_place (T.floats grid.now) (T.float v) }
 {
     if v != v {
-        return Loc::NotANumber;
+        return Err(LocError::NotANumber);
     }
     let n = grid.len();
-    Loc::At(place_from(n, partition_point(grid, v)))
+    Ok(place_from(n, partition_point(grid, v)))
 }
 
 // Past which ends of the axis v lies.
-pub fn marks_at(grid: &[f64], v: f64) -> Marks
+pub fn marks_at<T: Real>(grid: &[T], v: T) -> Marks
     requires { 4 ≤ length grid.now }
-    ensures below_value { result.below ≡ lt v (get_or grid.now 0 nan) }
-    ensures above_value { result.above ≡ lt (get_or grid.now (length grid.now - 1) nan) v }
+    ensures below_value { result.below ≡ lt (T.float v) (get_or (T.floats grid.now) 0 nan) }
+    ensures above_value { result.above ≡ lt (get_or (T.floats grid.now) (length grid.now - 1) nan) (T.float v) }
 {
     let last = grid.len() - 1;
     Marks {
@@ -99,10 +97,10 @@ pub fn marks_at(grid: &[f64], v: f64) -> Marks
 }
 
 // v, or the node of the end that it is past.
-pub fn hold(grid: &[f64], v: f64, marks: Marks) -> f64
+pub fn hold<T: Real>(grid: &[T], v: T, marks: Marks) -> T
     requires { 4 ≤ length grid.now }
-    ensures { result ≡ cond marks.below (get_or grid.now 0 nan)
-        (cond marks.above (get_or grid.now (length grid.now - 1) nan) v) }
+    ensures { T.float result ≡ cond marks.below (get_or (T.floats grid.now) 0 nan)
+        (cond marks.above (get_or (T.floats grid.now) (length grid.now - 1) nan) (T.float v)) }
 {
     if marks.below {
         return grid[0];
@@ -114,9 +112,9 @@ pub fn hold(grid: &[f64], v: f64, marks: Marks) -> f64
 }
 
 // The block's four entries.
-fn grid_cell(grid: &[f64], origin: usize) -> [f64; 4]
+fn grid_cell<T: Real>(grid: &[T], origin: usize) -> [T; 4]
     requires { origin + 4 ≤ length grid.now }
-    ensures { result ≡ cell_of grid.now origin }
+    ensures { T.floats result ≡ cell_of (T.floats grid.now) origin }
 {
     [
         grid[origin],
@@ -127,13 +125,13 @@ fn grid_cell(grid: &[f64], origin: usize) -> [f64; 4]
 }
 
 // The four weights of a block, by the class of the query's place. Only the Outside classes follow the straight line.
-fn interp_weights(
-    grid_cell: [f64; 4],
-    x: f64,
+fn interp_weights<T: Real>(
+    grid_cell: [T; 4],
+    x: T,
     sat: Saturation,
     linearize_extrapolation: bool,
-) -> [f64; 4]
-    ensures { result ≡ weights_of binary64 sat linearize_extrapolation grid_cell x }
+) -> [T; 4]
+    ensures { T.floats result ≡ weights_of T.format sat linearize_extrapolation (T.floats grid_cell) (T.float x) }
 {
     let x1 = grid_cell[1];
     let x2 = grid_cell[2];
@@ -150,15 +148,15 @@ fn interp_weights(
 }
 
 // Their derivatives by the query.
-fn interp_weight_derivatives(
-    grid_cell: [f64; 4],
-    x: f64,
+fn interp_weight_derivatives<T: Real>(
+    grid_cell: [T; 4],
+    x: T,
     sat: Saturation,
     linearize_extrapolation: bool,
-) -> [f64; 4]
-    ensures { result ≡ derivatives_of binary64 sat linearize_extrapolation grid_cell x }
+) -> [T; 4]
+    ensures { T.floats result ≡ derivatives_of T.format sat linearize_extrapolation (T.floats grid_cell) (T.float x) }
 {
-    let one = 1.0;
+    let one = T::one();
     let x1 = grid_cell[1];
     let x2 = grid_cell[2];
     let h01 = x1 - grid_cell[0];
@@ -193,9 +191,9 @@ fn interp_weight_derivatives(
 }
 
 // The weights of v's block at its place.
-pub fn weights_at(grid: &[f64], v: f64, place: Place, linearize_extrapolation: bool) -> [f64; 4]
+pub fn weights_at<T: Real>(grid: &[T], v: T, place: Place, linearize_extrapolation: bool) -> [T; 4]
     requires { place.origin + 4 ≤ length grid.now }
-    ensures { result ≡ weights_at binary64 grid.now linearize_extrapolation v place }
+    ensures { T.floats result ≡ weights_at T.format (T.floats grid.now) linearize_extrapolation (T.float v) place }
 {
     let class = place.class;
     let cell = grid_cell(grid, place.origin);
@@ -203,9 +201,14 @@ pub fn weights_at(grid: &[f64], v: f64, place: Place, linearize_extrapolation: b
 }
 
 // Its derivative weights.
-pub fn derivatives_at(grid: &[f64], v: f64, place: Place, linearize_extrapolation: bool) -> [f64; 4]
+pub fn derivatives_at<T: Real>(
+    grid: &[T],
+    v: T,
+    place: Place,
+    linearize_extrapolation: bool,
+) -> [T; 4]
     requires { place.origin + 4 ≤ length grid.now }
-    ensures { result ≡ derivatives_at binary64 grid.now linearize_extrapolation v place }
+    ensures { T.floats result ≡ derivatives_at T.format (T.floats grid.now) linearize_extrapolation (T.float v) place }
 {
     let class = place.class;
     let cell = grid_cell(grid, place.origin);

@@ -11,7 +11,7 @@ ghost use Rattle.rectilinear_query.specs.Grid.{axes_in, grid_of};
 ghost use Rattle.rectilinear_query.specs.Internal.{Ready};
 
 use grid::{Quantity, check_gradients, check_values};
-use multicubic::{Answer, EdgeMode, Outcome, outcome_of};
+use multicubic::{EdgeMode, Outcome};
 use rectilinear::new;
 use rectilinear_query::answer_at;
 use reduction::strides;
@@ -40,22 +40,12 @@ fn fill(
         0 (length out.old) out.old }
 {
     let count = out.len();
-    let mut i: usize = 0;
-    while i < count {
-        let answer = answer_at(
+    for i in 0..count {
+        out[i] = answer_at(
             axis_count, counts, axes, vals, mode, strides, queries, count, i, quantity,
-        );
-        match answer {
-            Answer::Refused { .. } => {
-                return outcome_of(answer);
-            }
-            Answer::Value(v) => {
-                out[i] = v;
-            }
-        }
-        i += 1;
+        )?;
     }
-    Outcome::Accepted
+    Ok(())
 }
 
 // The value of every query: entry i of `out` is query i's. An entry that keeps its contents is not stored to, so a NaN there keeps its
@@ -77,29 +67,27 @@ pub fn interp(
     ensures says { Says result (interp_outcome binary64 (grid_of binary64 axis_count counts axes.now vals.now mode)
         queries.now out.old) }
 {
-    let checked = check_values(
+    check_values(
         new(axis_count, counts, axes, vals),
         axis_count,
         queries.len(),
         out.len(),
-    );
-    match checked {
-        Outcome::Refused { .. } => checked,
-        Outcome::Accepted => fill(
-            axis_count,
-            counts,
-            axes,
-            vals,
-            mode,
-            strides(axis_count, counts),
-            queries,
-            Quantity::Value,
-            out,
-        ),
-    }
+    )?;
+    fill(
+        axis_count,
+        counts,
+        axes,
+        vals,
+        mode,
+        strides(axis_count, counts),
+        queries,
+        Quantity::Value,
+        out,
+    )
 }
 
-// Every column by itself: column d starts at d times the count. Each meets the same outcome.
+// Every column by itself: column d starts at d times the count. Each meets the same outcome, so none but the last hands it on: all are filled up to
+// the query that is refused.
 fn fill_columns(
     axis_count: usize,
     counts: [usize; 4],
@@ -124,9 +112,8 @@ fn fill_columns(
         0 count) count)
         out.old out.new }
 {
-    let mut outcome = Outcome::Accepted;
-    let mut d: usize = 0;
-    while d < axis_count {
+    let mut outcome = Ok(());
+    for d in 0..axis_count {
         let at = d * count;
         let end = at + count;
         outcome = fill(
@@ -140,7 +127,6 @@ fn fill_columns(
             Quantity::Component(d),
             &mut out[at..end],
         );
-        d += 1;
     }
     outcome
 }
@@ -163,24 +149,21 @@ pub fn interp_grad(
     ensures says { Says result (grad_outcome binary64 (grid_of binary64 axis_count counts axes.now vals.now mode)
         queries.now out.old) }
 {
-    let checked = check_gradients(
+    check_gradients(
         new(axis_count, counts, axes, vals),
         axis_count,
         queries.len(),
         out.len(),
-    );
-    match checked {
-        Outcome::Refused { .. } => checked,
-        Outcome::Accepted => fill_columns(
-            axis_count,
-            counts,
-            axes,
-            vals,
-            mode,
-            strides(axis_count, counts),
-            queries,
-            out.len() / axis_count,
-            out,
-        ),
-    }
+    )?;
+    fill_columns(
+        axis_count,
+        counts,
+        axes,
+        vals,
+        mode,
+        strides(axis_count, counts),
+        queries,
+        out.len() / axis_count,
+        out,
+    )
 }

@@ -13,7 +13,6 @@ ghost use Rattle.rectilinear_query.specs.Internal.{Ready};
 
 use grid::{Quantity, check_gradients, check_values};
 use multicubic::{EdgeMode, Outcome};
-use multicubic_f32::{AnswerF32, outcome_of};
 use rectilinear_f32::new;
 use rectilinear_query_f32::answer_at;
 use reduction::strides;
@@ -42,22 +41,12 @@ fn fill(
         0 (length out.old) out.old }
 {
     let count = out.len();
-    let mut i: usize = 0;
-    while i < count {
-        let answer = answer_at(
+    for i in 0..count {
+        out[i] = answer_at(
             axis_count, counts, axes, vals, mode, strides, queries, count, i, quantity,
-        );
-        match answer {
-            AnswerF32::Refused { .. } => {
-                return outcome_of(answer);
-            }
-            AnswerF32::Value(v) => {
-                out[i] = v;
-            }
-        }
-        i += 1;
+        )?;
     }
-    Outcome::Accepted
+    Ok(())
 }
 
 // The value of every query: entry i of `out` is query i's. An entry that keeps its contents is not stored to, so a NaN there keeps its
@@ -79,29 +68,27 @@ pub fn interp(
     ensures says { Says result (interp_outcome binary32 (grid_of binary32 axis_count counts axes.now vals.now mode)
         queries.now out.old) }
 {
-    let checked = check_values(
+    check_values(
         new(axis_count, counts, axes, vals),
         axis_count,
         queries.len(),
         out.len(),
-    );
-    match checked {
-        Outcome::Refused { .. } => checked,
-        Outcome::Accepted => fill(
-            axis_count,
-            counts,
-            axes,
-            vals,
-            mode,
-            strides(axis_count, counts),
-            queries,
-            Quantity::Value,
-            out,
-        ),
-    }
+    )?;
+    fill(
+        axis_count,
+        counts,
+        axes,
+        vals,
+        mode,
+        strides(axis_count, counts),
+        queries,
+        Quantity::Value,
+        out,
+    )
 }
 
-// Every column by itself: column d starts at d times the count. Each meets the same outcome.
+// Every column by itself: column d starts at d times the count. Each meets the same outcome, so none but the last hands it on: all are filled up to
+// the query that is refused.
 fn fill_columns(
     axis_count: usize,
     counts: [usize; 4],
@@ -126,9 +113,8 @@ fn fill_columns(
         0 count) count)
         out.old out.new }
 {
-    let mut outcome = Outcome::Accepted;
-    let mut d: usize = 0;
-    while d < axis_count {
+    let mut outcome = Ok(());
+    for d in 0..axis_count {
         let at = d * count;
         let end = at + count;
         outcome = fill(
@@ -142,7 +128,6 @@ fn fill_columns(
             Quantity::Component(d),
             &mut out[at..end],
         );
-        d += 1;
     }
     outcome
 }
@@ -165,24 +150,21 @@ pub fn interp_grad(
     ensures says { Says result (grad_outcome binary32 (grid_of binary32 axis_count counts axes.now vals.now mode)
         queries.now out.old) }
 {
-    let checked = check_gradients(
+    check_gradients(
         new(axis_count, counts, axes, vals),
         axis_count,
         queries.len(),
         out.len(),
-    );
-    match checked {
-        Outcome::Refused { .. } => checked,
-        Outcome::Accepted => fill_columns(
-            axis_count,
-            counts,
-            axes,
-            vals,
-            mode,
-            strides(axis_count, counts),
-            queries,
-            out.len() / axis_count,
-            out,
-        ),
-    }
+    )?;
+    fill_columns(
+        axis_count,
+        counts,
+        axes,
+        vals,
+        mode,
+        strides(axis_count, counts),
+        queries,
+        out.len() / axis_count,
+        out,
+    )
 }

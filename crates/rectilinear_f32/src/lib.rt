@@ -9,18 +9,14 @@ ghost use Rattle.grid.specs.Query.{find, found_outcome, outcome_of, at, place_an
 ghost use Rattle.grid.specs.Internal.{Located, gradient_to};
 ghost use Rattle.rectilinear_query.specs.Grid.{checks_of, axes_in, grid_of};
 ghost use Rattle.rectilinear_query.specs.Internal.{Taken, Ready};
-ghost use Rattle.multicubic_f32.specs.Same.{as_answer};
 
 use grid::Quantity;
 use multicubic::{
-    AxesLength, EdgeMode, Loc, MarkedPlaces, Outcome, PlaceAnswer, check_sizes, nowhere,
-    place_outcome, unplaced,
+    Answer, EdgeMode, GradientAnswer, Marked, Outcome, PlaceAnswer, check_sizes, nowhere,
+    outcome_of, place_at, unplaced,
 };
-use multicubic_f32::{
-    AnswerF32, GradientAnswerF32, MarkedAnswerF32, MarkedGradientF32, answered, outcome_of,
-};
-use rectilinear_axis_f32::hold;
-use rectilinear_order_f32::check_order;
+use rectilinear_axis::hold;
+use rectilinear_order::check_order;
 use rectilinear_query_f32::{answer_at, marks_of, replaced_at};
 use reduction::strides;
 
@@ -29,16 +25,8 @@ pub fn new(axis_count: usize, counts: [usize; 4], axes: &[f32], vals: &[f32]) ->
     ensures value { result ≡ checks_of axis_count counts axes.now (length vals.now) }
     ensures says { Says result (checks_of axis_count counts axes.now (length vals.now)) }
 {
-    let sizes = check_sizes(
-        axis_count,
-        counts,
-        vals.len(),
-        AxesLength::Joined(axes.len()),
-    );
-    match sizes {
-        Outcome::Refused { .. } => sizes,
-        Outcome::Accepted => check_order(axis_count, counts, axes),
-    }
+    check_sizes(axis_count, counts, vals.len(), Some(axes.len()))?;
+    check_order(axis_count, counts, axes)
 }
 
 // A query's place on every axis, or the refusal of the lowest axis that refuses it, 9 or 8.
@@ -54,25 +42,20 @@ fn locate(
 {
     let mut places = nowhere();
     let mut start: usize = 0;
-    let mut i: usize = 0;
-    while i < axis_count {
+    for i in 0..axis_count {
         let end = start + counts[i];
         let given = x[i];
         let entries = &axes[start..end];
         let replaced = replaced_at(entries, given, mode);
         let used = hold(entries, given, replaced);
-        let loc = rectilinear_axis_f32::get_loc(entries, used);
-        let place = match loc {
-            Loc::At(place) => place,
-            Loc::NotANumber => return unplaced(place_outcome(0, i, loc)),
-            Loc::Unplaceable => return unplaced(place_outcome(0, i, loc)),
-        };
-        places[i] = place;
+        match place_at(0, i, rectilinear_axis::get_loc(entries, used)) {
+            Ok(place) => places[i] = place,
+            Err(refusal) => return unplaced(Err(refusal)),
+        }
         start = end;
-        i += 1;
     }
     PlaceAnswer {
-        outcome: Outcome::Accepted,
+        outcome: Ok(()),
         places,
     }
 }
@@ -90,10 +73,9 @@ fn find_place(
     ensures places_value { result.places ≡ place_answer (grid_of binary32 axis_count counts axes.now vals.now mode) (at x) }
     ensures says { Says result.outcome (outcome_of (grid_of binary32 axis_count counts axes.now vals.now mode) (at x)) }
 {
-    let checked = new(axis_count, counts, axes, vals);
-    match checked {
-        Outcome::Refused { .. } => unplaced(checked),
-        Outcome::Accepted => locate(axis_count, counts, axes, mode, x),
+    match new(axis_count, counts, axes, vals) {
+        Err(refusal) => unplaced(Err(refusal)),
+        Ok(()) => locate(axis_count, counts, axes, mode, x),
     }
 }
 
@@ -105,27 +87,24 @@ fn find_value(
     vals: &[f32],
     mode: EdgeMode,
     x: [f32; 4],
-) -> AnswerF32
-    ensures result_value { as_answer result ≡ value_answer binary32 (grid_of binary32 axis_count counts axes.now vals.now mode) (at x) }
-    ensures says { Says (answer_outcome (as_answer result)) (outcome_of (grid_of binary32 axis_count counts axes.now vals.now mode) (at x)) }
-    ensures result_value_2 { value_in (as_answer result) ≡ value_carried binary32 (grid_of binary32 axis_count counts axes.now vals.now mode) (at x) }
+) -> Answer<f32>
+    ensures result_value { result ≡ value_answer binary32 (grid_of binary32 axis_count counts axes.now vals.now mode) (at x) }
+    ensures says { Says (answer_outcome result) (outcome_of (grid_of binary32 axis_count counts axes.now vals.now mode) (at x)) }
+    ensures result_value_2 { value_in result ≡ value_carried binary32 (grid_of binary32 axis_count counts axes.now vals.now mode) (at x) }
 {
-    let checked = new(axis_count, counts, axes, vals);
-    match checked {
-        Outcome::Refused { .. } => answered(checked, 0.0),
-        Outcome::Accepted => answer_at(
-            axis_count,
-            counts,
-            axes,
-            vals,
-            mode,
-            strides(axis_count, counts),
-            &x,
-            1,
-            0,
-            Quantity::Value,
-        ),
-    }
+    new(axis_count, counts, axes, vals)?;
+    answer_at(
+        axis_count,
+        counts,
+        axes,
+        vals,
+        mode,
+        strides(axis_count, counts),
+        &x,
+        1,
+        0,
+        Quantity::Value,
+    )
 }
 
 // The gradient on a grid that is taken, component by component.
@@ -137,15 +116,14 @@ fn gradient_at(
     mode: EdgeMode,
     strides: [usize; 4],
     x: [f32; 4],
-) -> GradientAnswerF32
+) -> GradientAnswer<f32>
     requires { Ready axis_count counts axes.now (length vals.now) strides }
     ensures outcome_value { result.outcome ≡ found_outcome 0 (find 0 (axes_in binary32 mode axis_count counts axes.now) (at x)) }
     ensures gradient_value { result.gradient ≡ gradient_to binary32 (axes_in binary32 mode axis_count counts axes.now) vals.now
         (find 0 (axes_in binary32 mode axis_count counts axes.now) (at x)) }
 {
     let mut gradient = [0.0; 4];
-    let mut d: usize = 0;
-    while d < axis_count {
+    for d in 0..axis_count {
         let component = answer_at(
             axis_count,
             counts,
@@ -159,20 +137,17 @@ fn gradient_at(
             Quantity::Component(d),
         );
         match component {
-            AnswerF32::Refused { .. } => {
-                return GradientAnswerF32 {
-                    outcome: outcome_of(component),
+            Ok(v) => gradient[d] = v,
+            Err(refusal) => {
+                return GradientAnswer {
+                    outcome: Err(refusal),
                     gradient: [0.0; 4],
                 };
             }
-            AnswerF32::Value(v) => {
-                gradient[d] = v;
-            }
         }
-        d += 1;
     }
-    GradientAnswerF32 {
-        outcome: Outcome::Accepted,
+    GradientAnswer {
+        outcome: Ok(()),
         gradient,
     }
 }
@@ -185,18 +160,17 @@ fn find_gradient(
     vals: &[f32],
     mode: EdgeMode,
     x: [f32; 4],
-) -> GradientAnswerF32
+) -> GradientAnswer<f32>
     ensures outcome_value { result.outcome ≡ outcome_of (grid_of binary32 axis_count counts axes.now vals.now mode) (at x) }
     ensures gradient_value { result.gradient ≡ gradient_answer binary32 (grid_of binary32 axis_count counts axes.now vals.now mode) (at x) }
     ensures says { Says result.outcome (outcome_of (grid_of binary32 axis_count counts axes.now vals.now mode) (at x)) }
 {
-    let checked = new(axis_count, counts, axes, vals);
-    match checked {
-        Outcome::Refused { .. } => GradientAnswerF32 {
-            outcome: checked,
+    match new(axis_count, counts, axes, vals) {
+        Err(refusal) => GradientAnswer {
+            outcome: Err(refusal),
             gradient: [0.0; 4],
         },
-        Outcome::Accepted => gradient_at(
+        Ok(()) => gradient_at(
             axis_count,
             counts,
             axes,
@@ -216,7 +190,7 @@ pub fn get_loc(
     vals: &[f32],
     mode: EdgeMode,
     x: [f32; 4],
-) -> MarkedPlaces
+) -> Marked<PlaceAnswer>
     ensures outcome_value { result.answer.outcome ≡ outcome_of (grid_of binary32 axis_count counts axes.now vals.now mode) (at x) }
     ensures places_value { result.answer.places ≡ place_answer (grid_of binary32 axis_count counts axes.now vals.now mode) (at x) }
     ensures marks_value { result.marks ≡ mark_answer (grid_of binary32 axis_count counts axes.now vals.now mode) (at x) }
@@ -225,7 +199,7 @@ pub fn get_loc(
     let answer = find_place(axis_count, counts, axes, vals, mode, x);
     let outcome = answer.outcome;
     let marks = marks_of(outcome, axis_count, counts, axes, x);
-    MarkedPlaces { answer, marks }
+    Marked { answer, marks }
 }
 
 // The value at a query, or the refusal. Of a value that is a NaN the contract says that it is one, and leaves its payload open.
@@ -236,15 +210,15 @@ pub fn interp_one(
     vals: &[f32],
     mode: EdgeMode,
     x: [f32; 4],
-) -> MarkedAnswerF32
-    ensures answer_value { as_answer result.answer ≡ value_answer binary32 (grid_of binary32 axis_count counts axes.now vals.now mode) (at x) }
+) -> Marked<Answer<f32>>
+    ensures answer_value { result.answer ≡ value_answer binary32 (grid_of binary32 axis_count counts axes.now vals.now mode) (at x) }
     ensures marks_value { result.marks ≡ mark_answer (grid_of binary32 axis_count counts axes.now vals.now mode) (at x) }
-    ensures says { Says (answer_outcome (as_answer result.answer)) (outcome_of (grid_of binary32 axis_count counts axes.now vals.now mode) (at x)) }
-    ensures answer_value_2 { value_in (as_answer result.answer) ≡ value_carried binary32 (grid_of binary32 axis_count counts axes.now vals.now mode) (at x) }
+    ensures says { Says (answer_outcome result.answer) (outcome_of (grid_of binary32 axis_count counts axes.now vals.now mode) (at x)) }
+    ensures answer_value_2 { value_in result.answer ≡ value_carried binary32 (grid_of binary32 axis_count counts axes.now vals.now mode) (at x) }
 {
     let answer = find_value(axis_count, counts, axes, vals, mode, x);
     let marks = marks_of(outcome_of(answer), axis_count, counts, axes, x);
-    MarkedAnswerF32 { answer, marks }
+    Marked { answer, marks }
 }
 
 // The gradient at a query, or the refusal. Of a component that is a NaN the contract says that it is one, and leaves its payload open.
@@ -255,7 +229,7 @@ pub fn interp_one_grad(
     vals: &[f32],
     mode: EdgeMode,
     x: [f32; 4],
-) -> MarkedGradientF32
+) -> Marked<GradientAnswer<f32>>
     ensures outcome_value { result.answer.outcome ≡ outcome_of (grid_of binary32 axis_count counts axes.now vals.now mode) (at x) }
     ensures gradient_value { result.answer.gradient ≡ gradient_answer binary32 (grid_of binary32 axis_count counts axes.now vals.now mode) (at x) }
     ensures marks_value { result.marks ≡ mark_answer (grid_of binary32 axis_count counts axes.now vals.now mode) (at x) }
@@ -264,5 +238,5 @@ pub fn interp_one_grad(
     let answer = find_gradient(axis_count, counts, axes, vals, mode, x);
     let outcome = answer.outcome;
     let marks = marks_of(outcome, axis_count, counts, axes, x);
-    MarkedGradientF32 { answer, marks }
+    Marked { answer, marks }
 }

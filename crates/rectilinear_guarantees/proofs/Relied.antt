@@ -9,10 +9,10 @@ use lib.ListN.{length, get_or, take, drop, length-take}
 use lib.Seq.{get_or-take, get_or-drop}
 use lib.Ieee.{Float, nan, Format, fits}
 use borrow.Author.Tests.{eqb-true, not-false}
-use Rattle.multicubic.specs.declared.Outcome.TheVariants.{Accepted}
-use Rattle.multicubic.specs.declared.AxesLength.TheVariants.{Joined}
+use Rattle.std.specs.Prelude.{Some}
+use Rattle.multicubic.specs.Types.{accepted}
 use Rattle.multicubic.specs.Grid.{◌then◌, sum, size_checks}
-use Rattle.multicubic.proofs.Passed.{Passed, accepted, then_accepted}
+use Rattle.multicubic.proofs.Passed.{Passed, accepted as passed_by, then_accepted}
 use Rattle.grid.specs.Query.{at}
 use Rattle.guarantees.proofs.Typing.{Typed}
 use Rattle.rectilinear_order.specs.Grid.{axes_of, order_checks, Rising, GapsAbove}
@@ -40,17 +40,17 @@ module _ (n : ℕ) (counts : List ℕ) (joined : List Float) (values : ℕ) wher
   abbrev parts : List (List Float)
   parts = axes_of (take n counts) joined
 
-  in_order : checks_of n counts joined values ≡ Accepted → order_checks parts ≡ Accepted
-  in_order taken = (then_accepted (size_checks n counts values (Joined (length joined))) (order_checks parts) taken).1
+  in_order : checks_of n counts joined values ≡ accepted → order_checks parts ≡ accepted
+  in_order taken = (then_accepted (size_checks n counts values (Some (length joined))) (order_checks parts) taken).1
 
-  pub rising : checks_of n counts joined values ≡ Accepted → Rising parts
+  pub rising : checks_of n counts joined values ≡ accepted → Rising parts
   rising taken = rises-strictly parts (in_order taken)
 
-  pub gaps : checks_of n counts joined values ≡ Accepted → (f : Format) → Typed f (at joined) → GapsAbove f parts
+  pub gaps : checks_of n counts joined values ≡ accepted → (f : Format) → Typed f (at joined) → GapsAbove f parts
   gaps taken f typed = no-gap-zero parts (in_order taken) f (parts_fit f (take n counts) joined typed)
 
-  pub taken_back : size_checks n counts values (Joined (length joined)) ≡ Accepted → Rising parts → checks_of n counts joined values ≡ Accepted
+  pub taken_back : size_checks n counts values (Some (length joined)) ≡ accepted → Rising parts → checks_of n counts joined values ≡ accepted
   taken_back sizes rise =
-      let p : Passed n counts values (Joined (length joined)) = accepted n counts values (Joined (length joined)) sizes in
+      let p : Passed n counts values (Some (length joined)) = passed_by n counts values (Some (length joined)) sizes in
       let whole : length joined ≡ sum (take n counts) = eqb-true _ _ (not-false _ p.joined) in
       ap (λ o. o then order_checks parts) sizes ∙ rising-taken parts (parts_long (take n counts) joined whole p.long) rise

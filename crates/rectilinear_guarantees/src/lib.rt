@@ -2,12 +2,10 @@
 // And clause 2.6: what a grid that is taken is relied on for.
 #![tactic(auto)]
 
-ghost use Rattle.std.specs.Prelude.{◌≡◌, length, take};
+ghost use Rattle.std.specs.Prelude.{◌≡◌, Some, length, take};
 ghost use Rattle.std.specs.Float.{binary64};
-ghost use Rattle.multicubic.specs.Same.{as_answer};
-ghost use Rattle.multicubic.specs.declared.AxesLength.TheVariants.{Joined};
+ghost use Rattle.multicubic.specs.Types.{accepted};
 ghost use Rattle.multicubic.specs.declared.EdgeMode.TheVariants.{Held};
-ghost use Rattle.multicubic.specs.declared.Outcome.TheVariants.{Accepted};
 ghost use Rattle.multicubic.specs.Grid.{size_checks};
 ghost use Rattle.grid.specs.Query.{at, value_answer, mark_answer};
 ghost use Rattle.grid.specs.Batch.{interp_outcome, interp_buffer};
@@ -17,7 +15,7 @@ ghost use Rattle.guarantees.specs.Marked.{UnmarkedAtNode};
 ghost use Rattle.guarantees.specs.Statements.{AnswersOf, BuffersOf, HeldEdge, HeldInBatch, OwedAlone, OwedInBatch};
 
 use guarantees::{TwoOutcomes, TwoTables};
-use multicubic::{EdgeMode, MarkedAnswer, Outcome};
+use multicubic::{Answer, EdgeMode, Marked, Outcome};
 
 // A query asked alone: `interp_one` and `interp_one_grad` on both tables.
 pub fn alone(
@@ -29,16 +27,16 @@ pub fn alone(
     mode: EdgeMode,
     other_vals: &[f64],
     other_mode: EdgeMode,
-) -> TwoTables
+) -> TwoTables<f64>
     ensures owed_alone { OwedAlone (AllPremises binary64 (axes_of (take axis_count counts) axes.now))
         (grid_of binary64 axis_count counts axes.now vals.now mode)
         (grid_of binary64 axis_count counts axes.now other_vals.now other_mode)
-        (at x) (as_answer result.value.answer) (as_answer result.other_value.answer)
+        (at x) result.value.answer result.other_value.answer
         result.gradient.answer.outcome result.other_gradient.answer.outcome result.gradient.answer.gradient result.other_gradient.answer.gradient }
     ensures answers_of { AnswersOf binary64 (grid_of binary64 axis_count counts axes.now vals.now mode) (at x)
-        (as_answer result.value.answer) result.gradient.answer.outcome result.gradient.answer.gradient }
+        result.value.answer result.gradient.answer.outcome result.gradient.answer.gradient }
     ensures answers_of_2 { AnswersOf binary64 (grid_of binary64 axis_count counts axes.now other_vals.now other_mode) (at x)
-        (as_answer result.other_value.answer) result.other_gradient.answer.outcome result.other_gradient.answer.gradient }
+        result.other_value.answer result.other_gradient.answer.outcome result.other_gradient.answer.gradient }
 {
     let value = rectilinear::interp_one(axis_count, counts, axes, vals, mode, x);
     let gradient = rectilinear::interp_one_grad(axis_count, counts, axes, vals, mode, x);
@@ -54,7 +52,7 @@ pub fn alone(
     }
 }
 
-// A batch: `interp` and `interp_grad` on both tables.
+// A batch: `interp` and `interp_grad` on both tables. Of the gradients the buffers are promised, and their outcomes are dropped.
 pub fn in_batch(
     axis_count: usize,
     counts: [usize; 4],
@@ -84,11 +82,11 @@ pub fn in_batch(
         queries.now other_out.old other_out.new other_grad.old other_grad.new }
 {
     let outcome = rectilinear_batch::interp(axis_count, counts, axes, vals, mode, queries, out);
-    rectilinear_batch::interp_grad(axis_count, counts, axes, vals, mode, queries, grad);
+    let _ = rectilinear_batch::interp_grad(axis_count, counts, axes, vals, mode, queries, grad);
     let other_outcome = rectilinear_batch::interp(
         axis_count, counts, axes, other_vals, other_mode, queries, other_out,
     );
-    rectilinear_batch::interp_grad(
+    let _ = rectilinear_batch::interp_grad(
         axis_count, counts, axes, other_vals, other_mode, queries, other_grad,
     );
     TwoOutcomes {
@@ -104,10 +102,10 @@ pub fn held_edge(
     axes: &[f64],
     vals: &[f64],
     x: [f64; 4],
-) -> MarkedAnswer
+) -> Marked<Answer<f64>>
     ensures held_edge { HeldEdge (AllPremises binary64 (axes_of (take axis_count counts) axes.now))
-        (grid_of binary64 axis_count counts axes.now vals.now Held) (at x) (as_answer result.answer) }
-    ensures answer_value { as_answer result.answer ≡ value_answer binary64 (grid_of binary64 axis_count counts axes.now vals.now Held) (at x) }
+        (grid_of binary64 axis_count counts axes.now vals.now Held) (at x) result.answer }
+    ensures answer_value { result.answer ≡ value_answer binary64 (grid_of binary64 axis_count counts axes.now vals.now Held) (at x) }
 {
     rectilinear::interp_one(axis_count, counts, axes, vals, EdgeMode::Held, x)
 }
@@ -139,7 +137,7 @@ pub fn unmarked_at_node(
     vals: &[f64],
     mode: EdgeMode,
     x: [f64; 4],
-) -> MarkedAnswer
+) -> Marked<Answer<f64>>
     ensures unmarked_at_node { UnmarkedAtNode (AllPremises binary64 (axes_of (take axis_count counts) axes.now))
         (grid_of binary64 axis_count counts axes.now vals.now mode) (at x) result.marks }
     ensures marks_value { result.marks ≡ mark_answer (grid_of binary64 axis_count counts axes.now vals.now mode) (at x) }
@@ -150,10 +148,10 @@ pub fn unmarked_at_node(
 // Clause 2.6: where `new` takes a grid, every axis rises strictly, and no gap is zero; and a grid of the right sizes whose axes rise strictly is taken.
 pub fn rises(axis_count: usize, counts: [usize; 4], axes: &[f64], vals: &[f64]) -> Outcome
     ensures value { result ≡ checks_of axis_count counts axes.now (length vals.now) }
-    ensures rising { result ≡ Accepted → Rising (axes_of (take axis_count counts) axes.now) }
-    ensures gaps_above { result ≡ Accepted → GapsAbove binary64 (axes_of (take axis_count counts) axes.now) }
-    ensures value_2 { size_checks axis_count counts (length vals.now) (Joined (length axes.now)) ≡ Accepted
-        → Rising (axes_of (take axis_count counts) axes.now) → result ≡ Accepted }
+    ensures rising { result ≡ accepted → Rising (axes_of (take axis_count counts) axes.now) }
+    ensures gaps_above { result ≡ accepted → GapsAbove binary64 (axes_of (take axis_count counts) axes.now) }
+    ensures value_2 { size_checks axis_count counts (length vals.now) (Some (length axes.now)) ≡ accepted
+        → Rising (axes_of (take axis_count counts) axes.now) → result ≡ accepted }
 {
     rectilinear::new(axis_count, counts, axes, vals)
 }

@@ -3,11 +3,10 @@
 // And clause 2.6: what a grid that is taken is relied on for.
 #![tactic(auto)]
 
-ghost use Rattle.std.specs.Prelude.{◌≡◌, length, take};
+ghost use Rattle.std.specs.Prelude.{◌≡◌, Some, length, take};
 ghost use Rattle.std.specs.Float.{binary32};
-ghost use Rattle.multicubic.specs.declared.AxesLength.TheVariants.{Joined};
+ghost use Rattle.multicubic.specs.Types.{accepted};
 ghost use Rattle.multicubic.specs.declared.EdgeMode.TheVariants.{Held};
-ghost use Rattle.multicubic.specs.declared.Outcome.TheVariants.{Accepted};
 ghost use Rattle.multicubic.specs.Grid.{size_checks};
 ghost use Rattle.grid.specs.Query.{at, value_answer, mark_answer};
 ghost use Rattle.grid.specs.Batch.{interp_outcome, interp_buffer};
@@ -15,12 +14,9 @@ ghost use Rattle.rectilinear_order.specs.Grid.{axes_of, Rising, GapsAbove};
 ghost use Rattle.rectilinear_query.specs.Grid.{checks_of, grid_of, AllPremises};
 ghost use Rattle.guarantees.specs.Marked.{UnmarkedAtNode};
 ghost use Rattle.guarantees.specs.Statements.{AnswersOf, BuffersOf, HeldEdge, HeldInBatch, OwedAlone, OwedInBatch};
-ghost use Rattle.multicubic_f32.specs.Same.{as_answer};
 
-use guarantees::TwoOutcomes;
-use guarantees_f32::TwoTablesF32;
-use multicubic::{EdgeMode, Outcome};
-use multicubic_f32::MarkedAnswerF32;
+use guarantees::{TwoOutcomes, TwoTables};
+use multicubic::{Answer, EdgeMode, Marked, Outcome};
 
 // A query asked alone: `interp_one` and `interp_one_grad` on both tables.
 pub fn alone(
@@ -32,16 +28,16 @@ pub fn alone(
     mode: EdgeMode,
     other_vals: &[f32],
     other_mode: EdgeMode,
-) -> TwoTablesF32
+) -> TwoTables<f32>
     ensures owed_alone { OwedAlone (AllPremises binary32 (axes_of (take axis_count counts) axes.now))
         (grid_of binary32 axis_count counts axes.now vals.now mode)
         (grid_of binary32 axis_count counts axes.now other_vals.now other_mode)
-        (at x) (as_answer result.value.answer) (as_answer result.other_value.answer)
+        (at x) result.value.answer result.other_value.answer
         result.gradient.answer.outcome result.other_gradient.answer.outcome result.gradient.answer.gradient result.other_gradient.answer.gradient }
     ensures answers_of { AnswersOf binary32 (grid_of binary32 axis_count counts axes.now vals.now mode) (at x)
-        (as_answer result.value.answer) result.gradient.answer.outcome result.gradient.answer.gradient }
+        result.value.answer result.gradient.answer.outcome result.gradient.answer.gradient }
     ensures answers_of_2 { AnswersOf binary32 (grid_of binary32 axis_count counts axes.now other_vals.now other_mode) (at x)
-        (as_answer result.other_value.answer) result.other_gradient.answer.outcome result.other_gradient.answer.gradient }
+        result.other_value.answer result.other_gradient.answer.outcome result.other_gradient.answer.gradient }
 {
     let value = rectilinear_f32::interp_one(axis_count, counts, axes, vals, mode, x);
     let gradient = rectilinear_f32::interp_one_grad(axis_count, counts, axes, vals, mode, x);
@@ -51,7 +47,7 @@ pub fn alone(
     let other_gradient = rectilinear_f32::interp_one_grad(
         axis_count, counts, axes, other_vals, other_mode, x,
     );
-    TwoTablesF32 {
+    TwoTables {
         value,
         gradient,
         other_value,
@@ -59,7 +55,7 @@ pub fn alone(
     }
 }
 
-// A batch: `interp` and `interp_grad` on both tables.
+// A batch: `interp` and `interp_grad` on both tables. Of the gradients the buffers are promised, and their outcomes are dropped.
 pub fn in_batch(
     axis_count: usize,
     counts: [usize; 4],
@@ -89,11 +85,11 @@ pub fn in_batch(
         queries.now other_out.old other_out.new other_grad.old other_grad.new }
 {
     let outcome = rectilinear_batch_f32::interp(axis_count, counts, axes, vals, mode, queries, out);
-    rectilinear_batch_f32::interp_grad(axis_count, counts, axes, vals, mode, queries, grad);
+    let _ = rectilinear_batch_f32::interp_grad(axis_count, counts, axes, vals, mode, queries, grad);
     let other_outcome = rectilinear_batch_f32::interp(
         axis_count, counts, axes, other_vals, other_mode, queries, other_out,
     );
-    rectilinear_batch_f32::interp_grad(
+    let _ = rectilinear_batch_f32::interp_grad(
         axis_count, counts, axes, other_vals, other_mode, queries, other_grad,
     );
     TwoOutcomes {
@@ -109,10 +105,10 @@ pub fn held_edge(
     axes: &[f32],
     vals: &[f32],
     x: [f32; 4],
-) -> MarkedAnswerF32
+) -> Marked<Answer<f32>>
     ensures held_edge { HeldEdge (AllPremises binary32 (axes_of (take axis_count counts) axes.now))
-        (grid_of binary32 axis_count counts axes.now vals.now Held) (at x) (as_answer result.answer) }
-    ensures answer_value { as_answer result.answer ≡ value_answer binary32 (grid_of binary32 axis_count counts axes.now vals.now Held) (at x) }
+        (grid_of binary32 axis_count counts axes.now vals.now Held) (at x) result.answer }
+    ensures answer_value { result.answer ≡ value_answer binary32 (grid_of binary32 axis_count counts axes.now vals.now Held) (at x) }
 {
     rectilinear_f32::interp_one(axis_count, counts, axes, vals, EdgeMode::Held, x)
 }
@@ -144,7 +140,7 @@ pub fn unmarked_at_node(
     vals: &[f32],
     mode: EdgeMode,
     x: [f32; 4],
-) -> MarkedAnswerF32
+) -> Marked<Answer<f32>>
     ensures unmarked_at_node { UnmarkedAtNode (AllPremises binary32 (axes_of (take axis_count counts) axes.now))
         (grid_of binary32 axis_count counts axes.now vals.now mode) (at x) result.marks }
     ensures marks_value { result.marks ≡ mark_answer (grid_of binary32 axis_count counts axes.now vals.now mode) (at x) }
@@ -155,10 +151,10 @@ pub fn unmarked_at_node(
 // Clause 2.6: where `new` takes a grid, every axis rises strictly, and no gap is zero; and a grid of the right sizes whose axes rise strictly is taken.
 pub fn rises(axis_count: usize, counts: [usize; 4], axes: &[f32], vals: &[f32]) -> Outcome
     ensures value { result ≡ checks_of axis_count counts axes.now (length vals.now) }
-    ensures rising { result ≡ Accepted → Rising (axes_of (take axis_count counts) axes.now) }
-    ensures gaps_above { result ≡ Accepted → GapsAbove binary32 (axes_of (take axis_count counts) axes.now) }
-    ensures value_2 { size_checks axis_count counts (length vals.now) (Joined (length axes.now)) ≡ Accepted
-        → Rising (axes_of (take axis_count counts) axes.now) → result ≡ Accepted }
+    ensures rising { result ≡ accepted → Rising (axes_of (take axis_count counts) axes.now) }
+    ensures gaps_above { result ≡ accepted → GapsAbove binary32 (axes_of (take axis_count counts) axes.now) }
+    ensures value_2 { size_checks axis_count counts (length vals.now) (Some (length axes.now)) ≡ accepted
+        → Rising (axes_of (take axis_count counts) axes.now) → result ≡ accepted }
 {
     rectilinear_f32::new(axis_count, counts, axes, vals)
 }

@@ -4,15 +4,13 @@
 
 ghost use Rattle.std.specs.Prelude.{◌≡◌, length};
 ghost use Rattle.std.specs.Float.{binary64};
-ghost use Rattle.multicubic.specs.Same.{as_answer};
 ghost use Rattle.slices.specs.Slices.{earlier};
 ghost use Rattle.slices.specs.Lent.{lent};
 ghost use Rattle.slices.specs.Internal.{PlacesOn, ValueOn, GradientOn, BothOn, InterpOn, InterpGradOn};
 ghost use Rattle.rectilinear_query.specs.Grid.{checks_of, grid_of};
 
 use multicubic::{
-    EdgeMode, GradientAnswer, MarkedAnswer, MarkedGradient, MarkedPlaces, Outcome, PlaceAnswer,
-    answered, nowhere, unmarked,
+    Answer, EdgeMode, GradientAnswer, Marked, Outcome, PlaceAnswer, answered, unmarked, unplaced,
 };
 use slices::earlier;
 use with_grad::{ValueAndGradient, refused};
@@ -39,18 +37,15 @@ pub fn get_loc(
     vals: &[f64],
     mode: EdgeMode,
     x: [f64; 4],
-) -> MarkedPlaces
+) -> Marked<PlaceAnswer>
     ensures { PlacesOn (lent slices (grid_of binary64 axis_count counts axes.now vals.now mode)) x result.answer.outcome result.answer.places result.marks }
 {
     match slices {
-        Outcome::Refused { .. } => MarkedPlaces {
-            answer: PlaceAnswer {
-                outcome: new(slices, axis_count, counts, axes, vals),
-                places: nowhere(),
-            },
+        Err(_) => Marked {
+            answer: unplaced(new(slices, axis_count, counts, axes, vals)),
             marks: unmarked(),
         },
-        Outcome::Accepted => rectilinear::get_loc(axis_count, counts, axes, vals, mode, x),
+        Ok(()) => rectilinear::get_loc(axis_count, counts, axes, vals, mode, x),
     }
 }
 
@@ -63,15 +58,15 @@ pub fn interp_one(
     vals: &[f64],
     mode: EdgeMode,
     x: [f64; 4],
-) -> MarkedAnswer
-    ensures { ValueOn binary64 (lent slices (grid_of binary64 axis_count counts axes.now vals.now mode)) x (as_answer result.answer) result.marks }
+) -> Marked<Answer<f64>>
+    ensures { ValueOn binary64 (lent slices (grid_of binary64 axis_count counts axes.now vals.now mode)) x result.answer result.marks }
 {
     match slices {
-        Outcome::Refused { .. } => MarkedAnswer {
+        Err(_) => Marked {
             answer: answered(new(slices, axis_count, counts, axes, vals), 0.0),
             marks: unmarked(),
         },
-        Outcome::Accepted => rectilinear::interp_one(axis_count, counts, axes, vals, mode, x),
+        Ok(()) => rectilinear::interp_one(axis_count, counts, axes, vals, mode, x),
     }
 }
 
@@ -84,19 +79,19 @@ pub fn interp_one_grad(
     vals: &[f64],
     mode: EdgeMode,
     x: [f64; 4],
-) -> MarkedGradient
+) -> Marked<GradientAnswer<f64>>
     ensures { GradientOn binary64 (lent slices (grid_of binary64 axis_count counts axes.now vals.now mode)) x
         result.answer.outcome result.answer.gradient result.marks }
 {
     match slices {
-        Outcome::Refused { .. } => MarkedGradient {
+        Err(_) => Marked {
             answer: GradientAnswer {
                 outcome: new(slices, axis_count, counts, axes, vals),
-                gradient: [0.0, 0.0, 0.0, 0.0],
+                gradient: [0.0; 4],
             },
             marks: unmarked(),
         },
-        Outcome::Accepted => rectilinear::interp_one_grad(axis_count, counts, axes, vals, mode, x),
+        Ok(()) => rectilinear::interp_one_grad(axis_count, counts, axes, vals, mode, x),
     }
 }
 
@@ -109,13 +104,13 @@ pub fn interp_one_with_grad(
     vals: &[f64],
     mode: EdgeMode,
     x: [f64; 4],
-) -> ValueAndGradient
+) -> ValueAndGradient<f64>
     ensures { BothOn binary64 (lent slices (grid_of binary64 axis_count counts axes.now vals.now mode)) x
-        (as_answer result.answer) result.gradient result.marks result.sums.taken }
+        result.answer result.gradient result.marks result.sums.taken }
 {
     match slices {
-        Outcome::Refused { .. } => refused(new(slices, axis_count, counts, axes, vals)),
-        Outcome::Accepted => {
+        Err(_) => refused(new(slices, axis_count, counts, axes, vals)),
+        Ok(()) => {
             rectilinear_with_grad::interp_one_with_grad(axis_count, counts, axes, vals, mode, x)
         }
     }
@@ -136,10 +131,8 @@ pub fn interp(
         queries.now out.old result out.new }
 {
     match slices {
-        Outcome::Refused { .. } => new(slices, axis_count, counts, axes, vals),
-        Outcome::Accepted => {
-            rectilinear_batch::interp(axis_count, counts, axes, vals, mode, queries, out)
-        }
+        Err(_) => new(slices, axis_count, counts, axes, vals),
+        Ok(()) => { rectilinear_batch::interp(axis_count, counts, axes, vals, mode, queries, out) }
     }
 }
 
@@ -158,8 +151,8 @@ pub fn interp_grad(
         queries.now out.old result out.new }
 {
     match slices {
-        Outcome::Refused { .. } => new(slices, axis_count, counts, axes, vals),
-        Outcome::Accepted => {
+        Err(_) => new(slices, axis_count, counts, axes, vals),
+        Ok(()) => {
             rectilinear_batch::interp_grad(axis_count, counts, axes, vals, mode, queries, out)
         }
     }

@@ -9,12 +9,13 @@ ghost use Rattle.slices.specs.Slices.{earlier};
 ghost use Rattle.slices.specs.Lent.{lent};
 ghost use Rattle.slices.specs.Internal.{PlacesOn, ValueOn, GradientOn, BothOn, InterpOn, InterpGradOn};
 ghost use Rattle.rectilinear_query.specs.Grid.{checks_of, grid_of};
-ghost use Rattle.multicubic_f32.specs.Same.{as_answer};
 
-use multicubic::{EdgeMode, MarkedPlaces, Outcome, PlaceAnswer, nowhere, unmarked};
-use multicubic_f32::{GradientAnswerF32, MarkedAnswerF32, MarkedGradientF32, answered};
+use multicubic::{
+    Answer, EdgeMode, GradientAnswer, Marked, Outcome, PlaceAnswer, answered, unmarked, unplaced,
+};
 use slices::earlier;
-use with_grad_f32::{ValueAndGradientF32, refused};
+use with_grad::ValueAndGradient;
+use with_grad_f32::refused;
 
 // The refusal of the slices, or the grid's own.
 pub fn new(
@@ -38,18 +39,15 @@ pub fn get_loc(
     vals: &[f32],
     mode: EdgeMode,
     x: [f32; 4],
-) -> MarkedPlaces
+) -> Marked<PlaceAnswer>
     ensures { PlacesOn (lent slices (grid_of binary32 axis_count counts axes.now vals.now mode)) x result.answer.outcome result.answer.places result.marks }
 {
     match slices {
-        Outcome::Refused { .. } => MarkedPlaces {
-            answer: PlaceAnswer {
-                outcome: new(slices, axis_count, counts, axes, vals),
-                places: nowhere(),
-            },
+        Err(_) => Marked {
+            answer: unplaced(new(slices, axis_count, counts, axes, vals)),
             marks: unmarked(),
         },
-        Outcome::Accepted => rectilinear_f32::get_loc(axis_count, counts, axes, vals, mode, x),
+        Ok(()) => rectilinear_f32::get_loc(axis_count, counts, axes, vals, mode, x),
     }
 }
 
@@ -62,15 +60,15 @@ pub fn interp_one(
     vals: &[f32],
     mode: EdgeMode,
     x: [f32; 4],
-) -> MarkedAnswerF32
-    ensures { ValueOn binary32 (lent slices (grid_of binary32 axis_count counts axes.now vals.now mode)) x (as_answer result.answer) result.marks }
+) -> Marked<Answer<f32>>
+    ensures { ValueOn binary32 (lent slices (grid_of binary32 axis_count counts axes.now vals.now mode)) x result.answer result.marks }
 {
     match slices {
-        Outcome::Refused { .. } => MarkedAnswerF32 {
+        Err(_) => Marked {
             answer: answered(new(slices, axis_count, counts, axes, vals), 0.0),
             marks: unmarked(),
         },
-        Outcome::Accepted => rectilinear_f32::interp_one(axis_count, counts, axes, vals, mode, x),
+        Ok(()) => rectilinear_f32::interp_one(axis_count, counts, axes, vals, mode, x),
     }
 }
 
@@ -83,21 +81,19 @@ pub fn interp_one_grad(
     vals: &[f32],
     mode: EdgeMode,
     x: [f32; 4],
-) -> MarkedGradientF32
+) -> Marked<GradientAnswer<f32>>
     ensures { GradientOn binary32 (lent slices (grid_of binary32 axis_count counts axes.now vals.now mode)) x
         result.answer.outcome result.answer.gradient result.marks }
 {
     match slices {
-        Outcome::Refused { .. } => MarkedGradientF32 {
-            answer: GradientAnswerF32 {
+        Err(_) => Marked {
+            answer: GradientAnswer {
                 outcome: new(slices, axis_count, counts, axes, vals),
-                gradient: [0.0, 0.0, 0.0, 0.0],
+                gradient: [0.0; 4],
             },
             marks: unmarked(),
         },
-        Outcome::Accepted => rectilinear_f32::interp_one_grad(
-            axis_count, counts, axes, vals, mode, x,
-        ),
+        Ok(()) => rectilinear_f32::interp_one_grad(axis_count, counts, axes, vals, mode, x),
     }
 }
 
@@ -110,13 +106,13 @@ pub fn interp_one_with_grad(
     vals: &[f32],
     mode: EdgeMode,
     x: [f32; 4],
-) -> ValueAndGradientF32
+) -> ValueAndGradient<f32>
     ensures { BothOn binary32 (lent slices (grid_of binary32 axis_count counts axes.now vals.now mode)) x
-        (as_answer result.answer) result.gradient result.marks result.sums.taken }
+        result.answer result.gradient result.marks result.sums.taken }
 {
     match slices {
-        Outcome::Refused { .. } => refused(new(slices, axis_count, counts, axes, vals)),
-        Outcome::Accepted => {
+        Err(_) => refused(new(slices, axis_count, counts, axes, vals)),
+        Ok(()) => {
             rectilinear_with_grad_f32::interp_one_with_grad(axis_count, counts, axes, vals, mode, x)
         }
     }
@@ -137,8 +133,8 @@ pub fn interp(
         queries.now out.old result out.new }
 {
     match slices {
-        Outcome::Refused { .. } => new(slices, axis_count, counts, axes, vals),
-        Outcome::Accepted => {
+        Err(_) => new(slices, axis_count, counts, axes, vals),
+        Ok(()) => {
             rectilinear_batch_f32::interp(axis_count, counts, axes, vals, mode, queries, out)
         }
     }
@@ -159,8 +155,8 @@ pub fn interp_grad(
         queries.now out.old result out.new }
 {
     match slices {
-        Outcome::Refused { .. } => new(slices, axis_count, counts, axes, vals),
-        Outcome::Accepted => {
+        Err(_) => new(slices, axis_count, counts, axes, vals),
+        Ok(()) => {
             rectilinear_batch_f32::interp_grad(axis_count, counts, axes, vals, mode, queries, out)
         }
     }

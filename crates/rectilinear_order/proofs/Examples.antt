@@ -5,8 +5,9 @@ use mathlib.Core.List.{[], ◌∷◌}
 use Prim.Native.Nat.{ℕ}
 use lib.IntN.{pos}
 use lib.Ieee.{Float, nan, inf, fin, is_nan, lt, eq}
-use Rattle.multicubic.specs.declared.Outcome.{Outcome}
-use Rattle.multicubic.specs.declared.Outcome.TheVariants.{Accepted, Refused}
+use Rattle.std.specs.Prelude.{Err}
+use Rattle.multicubic.specs.declared.Check.TheVariants.{NotRising, Disordered, NotSteep}
+use Rattle.multicubic.specs.Types.{Outcome, accepted, refusal}
 use Rattle.rectilinear_order.specs.Grid.{not_rising, disorder, flat, order_checks}
 
 abbrev n0 : Float
@@ -26,22 +27,22 @@ abbrev m1 : Float
 m1 = fin true 1 (pos 0)
 
 -- axis 0 is in disorder at entry 3, and entry 1 of axis 1 is not above entry 0: 5 is tried on all axes first
-pub five_first : order_checks ((n0 ∷ n1 ∷ n2 ∷ n1 ∷ []) ∷ (n1 ∷ n1 ∷ n2 ∷ n2 ∷ []) ∷ []) ≡ Refused 5 0 1
+pub five_first : order_checks ((n0 ∷ n1 ∷ n2 ∷ n1 ∷ []) ∷ (n1 ∷ n1 ∷ n2 ∷ n2 ∷ []) ∷ []) ≡ Err (refusal NotRising 0 1)
 unfolding not_rising disorder flat lt eq is_nan
 five_first = refl
 
 -- a NaN among the first two entries is 5, and one after them is 6
-pub nan_early : order_checks ((n0 ∷ nan ∷ n1 ∷ n2 ∷ []) ∷ []) ≡ Refused 5 0 0
+pub nan_early : order_checks ((n0 ∷ nan ∷ n1 ∷ n2 ∷ []) ∷ []) ≡ Err (refusal NotRising 0 0)
 unfolding not_rising disorder flat lt eq is_nan
 nan_early = refl
 
-pub nan_late : order_checks ((n0 ∷ n1 ∷ n2 ∷ nan ∷ []) ∷ []) ≡ Refused 6 0 0
+pub nan_late : order_checks ((n0 ∷ n1 ∷ n2 ∷ nan ∷ []) ∷ []) ≡ Err (refusal Disordered 0 0)
 unfolding not_rising disorder flat lt eq is_nan
 nan_late = refl
 
 -- ---- check 10
 abbrev pub flat_on : ℕ → Outcome
-flat_on axis = Refused 10 0 axis
+flat_on axis = Err (refusal NotSteep 0 axis)
 
 -- equal neighbours after entry 1 are 10, the last pair too
 pub flat_inside : order_checks ((n0 ∷ n1 ∷ n1 ∷ n2 ∷ []) ∷ []) ≡ flat_on 0
@@ -65,16 +66,16 @@ pub flat_infinite : order_checks ((n0 ∷ n1 ∷ inf false ∷ inf false ∷ [])
 unfolding not_rising disorder flat lt eq is_nan
 flat_infinite = refl
 
-pub zeros_early : order_checks ((m0 ∷ n0 ∷ n1 ∷ n2 ∷ []) ∷ []) ≡ Refused 5 0 0
+pub zeros_early : order_checks ((m0 ∷ n0 ∷ n1 ∷ n2 ∷ []) ∷ []) ≡ Err (refusal NotRising 0 0)
 unfolding not_rising disorder flat lt eq is_nan
 zeros_early = refl
 
 -- each check over all axes before the next: a flat axis 0 does not come before 6 or 5 on axis 1
-pub six_before_ten : order_checks ((n0 ∷ n1 ∷ n1 ∷ n2 ∷ []) ∷ (n0 ∷ n1 ∷ n2 ∷ n1 ∷ []) ∷ []) ≡ Refused 6 0 1
+pub six_before_ten : order_checks ((n0 ∷ n1 ∷ n1 ∷ n2 ∷ []) ∷ (n0 ∷ n1 ∷ n2 ∷ n1 ∷ []) ∷ []) ≡ Err (refusal Disordered 0 1)
 unfolding not_rising disorder flat lt eq is_nan
 six_before_ten = refl
 
-pub five_before_ten : order_checks ((n0 ∷ n1 ∷ n1 ∷ n2 ∷ []) ∷ (n1 ∷ n1 ∷ n2 ∷ n2 ∷ []) ∷ []) ≡ Refused 5 0 1
+pub five_before_ten : order_checks ((n0 ∷ n1 ∷ n1 ∷ n2 ∷ []) ∷ (n1 ∷ n1 ∷ n2 ∷ n2 ∷ []) ∷ []) ≡ Err (refusal NotRising 0 1)
 unfolding not_rising disorder flat lt eq is_nan
 five_before_ten = refl
 
@@ -88,6 +89,6 @@ unfolding not_rising disorder flat lt eq is_nan
 lower_flat = refl
 
 -- an infinite last entry rises
-pub rising_to_infinity : order_checks ((n0 ∷ n1 ∷ n2 ∷ inf false ∷ []) ∷ []) ≡ Accepted
+pub rising_to_infinity : order_checks ((n0 ∷ n1 ∷ n2 ∷ inf false ∷ []) ∷ []) ≡ accepted
 unfolding not_rising disorder flat lt eq is_nan
 rising_to_infinity = refl

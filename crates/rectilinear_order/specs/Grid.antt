@@ -3,7 +3,8 @@ use Rattle.std.specs.Prelude.{ℕ, suc, ◌<◌, Bool, false, not, ◌||◌, Lis
 use Rattle.std.specs.Float.{nan, Format}
 use Rattle.std.specs.Float.Ieee.{is_nan, sub, lt, eq}
 use Rattle.ieee.specs.Numbers.{zero}
-use Rattle.multicubic.specs.declared.Outcome.{Outcome}
+use Rattle.multicubic.specs.declared.Check.TheVariants.{NotRising, Disordered, NotSteep}
+use Rattle.multicubic.specs.Types.{Outcome}
 use Rattle.multicubic.specs.Grid.{lowest, ◌then◌}
 
 -- the axes, joined one after the other, by their counts
@@ -28,7 +29,7 @@ flat (y ∷ []) = false
 flat (y ∷ z ∷ zs) = eq y z || flat (z ∷ zs)
 
 abbrev pub order_checks : List (List Float) → Outcome
-order_checks axes = lowest 5 not_rising 0 axes then lowest 6 disorder 0 axes then lowest 10 flat 0 axes
+order_checks axes = lowest NotRising not_rising 0 axes then lowest Disordered disorder 0 axes then lowest NotSteep flat 0 axes
 
 -- ---- clause 2.6, what a grid that is taken is relied on for
 -- of every entry of every axis and the one before it

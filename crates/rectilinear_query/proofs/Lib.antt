@@ -1,3 +1,4 @@
 -- Laws of a rectilinear grid.
 pub mod Sizes
 pub mod Locating
+pub mod Taking

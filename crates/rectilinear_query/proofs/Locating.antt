@@ -2,30 +2,26 @@
 use mathlib.Core.Path.{◌≡◌, refl, sym, ap, ◌∙◌}
 use mathlib.Core.Bool.{Bool, false}
 use mathlib.Core.List.{List, [], ◌∷◌, map}
-use Prim.Native.Nat.{ℕ, zero, suc, ◌+◌, ◌-◌, ◌≤◌, ◌<◌}
+use Prim.Native.Nat.{ℕ, zero, suc, ◌+◌, ◌≤◌, ◌<◌}
 use native.Mathlib.Numerals.{add-one}
 use native.Mathlib.Omega.{arith}
 use lib.IntN.{pos, ◌-ℤ◌}
-use lib.ListN.{length, get_or, take, drop, length-map, length-take, length-drop, get_or-map}
+use lib.ListN.{length, get_or, take, drop, length-map}
 use lib.Seq.{length-take-le, drop-drop}
 use lib.Ieee.{Float, Format}
-use Rattle.multicubic.specs.declared.AxesLength.TheVariants.{Joined}
+use Rattle.multicubic.specs.Types.{accepted}
+use Rattle.std.specs.Prelude.{Some}
 use Rattle.multicubic.specs.declared.EdgeMode.{EdgeMode}
-use Rattle.multicubic.specs.declared.Loc.TheVariants.{At}
-use Rattle.multicubic.specs.declared.Outcome.TheVariants.{Accepted}
-use Rattle.multicubic.specs.declared.Place.{Place}
-use Rattle.multicubic.specs.Grid.{sum, any_over, size_checks}
+use Rattle.multicubic.specs.Grid.{sum, any_over}
 use Rattle.multicubic.proofs.Numbers.{placed_number}
-use Rattle.multicubic.proofs.Passed.{Passed, then_accepted, lowest-accepted}
-use Rattle.rectilinear_order.specs.Grid.{axes_of, disorder, order_checks}
-use Rattle.rectilinear_order.proofs.Strict.{six-passed}
+use Rattle.multicubic.proofs.Passed.{Passed}
+use Rattle.rectilinear_order.specs.Grid.{axes_of}
 use Rattle.rectilinear_axis.specs.Place.{count_below}
 use Rattle.reduction.specs.Value.{strides_of}
 use Rattle.grid.specs.Query.{counts_of as grid_counts}
-use Rattle.grid.specs.Internal.{no_axis as no_grid_axis}
 use Rattle.grid.specs.Nodes.{All}
 use Rattle.grid.proofs.Premises.{Long}
-use Rattle.grid.proofs.Sizes.{all-long, each_long}
+use Rattle.grid.proofs.Sizes.{all-long}
 use Rattle.grid.proofs.Fit.{Roomy, roomy_place, Fit, fits_by}
 use Rattle.grid.proofs.Edges.{edge_roomy}
 use Rattle.rectilinear_query.specs.Grid.{checks_of, grid_axis, axis_in, grid_axes, axes_in}
@@ -43,7 +39,7 @@ sum_next cs j = rw add-one (go cs j)
     go (c ∷ cs) zero = omega arith
     go (c ∷ cs) (suc j) = omega (arith, go cs j)
 
-sum-most : (n : ℕ) (cs : List ℕ) (j : ℕ) → j < n → sum (take j cs) + get_or cs j 0 ≤ sum (take n cs)
+pub sum-most : (n : ℕ) (cs : List ℕ) (j : ℕ) → j < n → sum (take j cs) + get_or cs j 0 ≤ sum (take n cs)
 sum-most zero cs j h = absurd (omega arith)
 sum-most (suc n) [] zero h = omega arith
 sum-most (suc n) [] (suc j) h = omega arith
@@ -51,7 +47,7 @@ sum-most (suc n) (c ∷ cs) zero h = omega arith
 sum-most (suc n) (c ∷ cs) (suc j) h = omega (arith, sum-most n cs j (omega arith))
 
 -- whatever is told of each part is, at j, told of the entries of axis j
-part_at : {A : Type 0} (told : List Float → A) (d : A) (n : ℕ) (counts : List ℕ) (joined : List Float) (j : ℕ) → j < n → n ≤ length counts
+pub part_at : {A : Type 0} (told : List Float → A) (d : A) (n : ℕ) (counts : List ℕ) (joined : List Float) (j : ℕ) → j < n → n ≤ length counts
     → get_or (map told (axes_of (take n counts) joined)) j d ≡ told (take (get_or counts j 0) (drop (sum (take j counts)) joined))
 part_at told d zero counts joined j h k = absurd (omega arith)
 part_at told d (suc n) [] joined j h k = absurd (omega arith)
@@ -59,14 +55,14 @@ part_at told d (suc n) (c ∷ counts) joined zero h k = refl
 part_at told d (suc n) (c ∷ counts) joined (suc j) h k =
     part_at told d n counts (drop c joined) j (omega arith) (omega arith) ∙ ap (λ (rest : List Float). told (take (get_or counts j 0) rest)) (drop-drop (sum (take j counts)) c joined)
 
-parts_length : (cs : List ℕ) (joined : List Float) → length (axes_of cs joined) ≡ length cs
+pub parts_length : (cs : List ℕ) (joined : List Float) → length (axes_of cs joined) ≡ length cs
 parts_length [] joined = refl
 parts_length (c ∷ cs) joined = ap suc (parts_length cs (drop c joined))
 
 pub axes-long : (f : Format) (mode : EdgeMode) (n : ℕ) (counts : List ℕ) (joined : List Float) → n ≤ length counts → length (grid_axes f mode (axes_of (take n counts) joined)) ≡ n
 axes-long f mode n counts joined h = length-map (axes_of (take n counts) joined) (axis_in f mode) ∙ parts_length (take n counts) joined ∙ length-take-le n counts h
 
-roomy_axis : (f : Format) (straight : Bool) (entries : List Float) → 4 ≤ length entries → Roomy (grid_axis f straight entries)
+pub roomy_axis : (f : Format) (straight : Bool) (entries : List Float) → 4 ≤ length entries → Roomy (grid_axis f straight entries)
 roomy_axis f straight entries h x p e = roomy_place (length entries) (pos (count_below x entries) -ℤ pos 2) p h (placed_number x _ p e).1
 
 roomy_axes : (f : Format) (mode : EdgeMode) (cs : List ℕ) (joined : List Float) → length joined ≡ sum cs → Long cs → All Roomy (grid_axes f mode (axes_of cs joined))
@@ -75,7 +71,7 @@ roomy_axes f mode (c ∷ cs) joined e h =
     (edge_roomy mode (λ straight. grid_axis f straight (take c joined)) (λ straight. roomy_axis f straight (take c joined) (rw (part_length c cs joined e) h.0)), roomy_axes f mode cs (drop c joined) (rest-length c cs joined e) h.1)
 
 -- what `strides` asks, and what it then tells
-module _ (n : ℕ) (counts : List ℕ) (joined : List Float) (values : ℕ) (checked : checks_of n counts joined values ≡ Accepted) where
+module _ (n : ℕ) (counts : List ℕ) (joined : List Float) (values : ℕ) (checked : checks_of n counts joined values ≡ accepted) where
   pub spaceable : (n ≤ 4) × (any_over (take n counts) ≡ false)
   spaceable = let p = passed n counts joined values checked in (p.few, p.within)
 
@@ -87,7 +83,7 @@ taken_of {values = values} ready = record { values = values; checked = ready.che
 
 -- a grid that is taken
 module _ (f : Format) (mode : EdgeMode) {n : ℕ} {counts : List ℕ} {joined : List Float} (four : length counts ≡ 4) (taken : Taken n counts joined) where
-  sizes : Passed n counts taken.values (Joined (length joined))
+  sizes : Passed n counts taken.values (Some (length joined))
   sizes = passed n counts joined taken.values taken.checked
 
   total : length joined ≡ sum (take n counts)
@@ -103,37 +99,3 @@ module _ (f : Format) (mode : EdgeMode) {n : ℕ} {counts : List ℕ} {joined : 
 
   pub spaced-by : (strides : List ℕ) → take n strides ≡ strides_of (take n counts) → take n strides ≡ strides_of (grid_counts (axes_in f mode n counts joined))
   spaced-by strides e = e ∙ ap strides_of (sym counts-are)
-
-  -- axis j, as the code takes it from its start
-  module _ (j : ℕ) (h : j < n) (start : ℕ) (e : start ≡ sum (take j counts)) where
-    abbrev pub part : List Float
-    part = take (start + get_or counts j 0 - start) (drop start joined)
-
-    pub ends-within : start + get_or counts j 0 ≤ length joined
-    ends-within = omega (arith, total, sum-most n counts j h)
-
-    -- it is the part that the definitions have
-    part-is : {A : Type 0} (told : List Float → A) (d : A) → get_or (map told (axes_of (take n counts) joined)) j d ≡ told part
-    part-is told d =
-        let few = sizes.few in
-        let k : start + get_or counts j 0 - start ≡ get_or counts j 0 = omega arith in
-        rw (k, e) (part_at told d n counts joined j h (omega arith))
-
-    pub long-at : 4 ≤ length part
-    long-at = let long = each_long n counts taken.values (Joined (length joined)) sizes four j h in simp (length-take, length-drop) (omega (arith, ends-within))
-
-    pub axis-is : axis_in f mode part ≡ get_or (axes_in f mode n counts joined) j no_grid_axis
-    axis-is = sym (part-is (axis_in f mode) no_grid_axis)
-
-    -- check 6 has passed it
-    pub sound-at : disorder part ≡ false
-    sound-at =
-        let few = sizes.few in
-        let parts = axes_of (take n counts) joined in
-        let many : length parts ≡ n = parts_length (take n counts) joined ∙ length-take-le n counts (omega arith) in
-        let checked = then_accepted (size_checks n counts taken.values (Joined (length joined))) (order_checks parts) taken.checked in
-        sym (part-is disorder (disorder [])) ∙ get_or-map disorder parts j [] ∙ lowest-accepted 6 disorder 0 parts [] (six-passed parts checked.1) j (omega arith)
-
-    -- a place's block lies on it
-    pub room-on : (straight : Bool) (x : Float) (p : Place) → At p ≡ (grid_axis f straight part).loc x → p.origin + 4 ≤ length part
-    room-on straight x p e = roomy_axis f straight part long-at x p (sym e)

@@ -7,11 +7,11 @@ use lib.ListN.{length, get_or, take, drop, length-drop}
 use lib.Seq.{length-take-le}
 use lib.Ieee.{Float, Format}
 use borrow.Author.Tests.{eqb-true, not-false}
-use Rattle.multicubic.specs.declared.AxesLength.TheVariants.{Joined}
+use Rattle.std.specs.Prelude.{Some}
+use Rattle.multicubic.specs.Types.{accepted}
 use Rattle.multicubic.specs.declared.EdgeMode.{EdgeMode}
-use Rattle.multicubic.specs.declared.Outcome.TheVariants.{Accepted}
 use Rattle.multicubic.specs.Grid.{sum, size_checks}
-use Rattle.multicubic.proofs.Passed.{then_accepted, Passed, accepted}
+use Rattle.multicubic.proofs.Passed.{then_accepted, Passed, accepted as passed_by}
 use Rattle.rectilinear_order.specs.Grid.{axes_of}
 use Rattle.grid.specs.Query.{counts_of}
 use Rattle.grid.proofs.Premises.{Sized}
@@ -32,20 +32,20 @@ grid_counts_lem f mode [] joined e = refl
 grid_counts_lem f mode (c ∷ cs) joined e =
     λ k. edge_count mode (λ straight. grid_axis f straight (take c joined)) c (λ straight. part_length c cs joined e) k ∷ grid_counts_lem f mode cs (drop c joined) (rest-length c cs joined e) k
 
-module _ (n : ℕ) (counts : List ℕ) (joined : List Float) (values : ℕ) (taken : checks_of n counts joined values ≡ Accepted) where
-  pub passed : Passed n counts values (Joined (length joined))
-  passed = accepted n counts values (Joined (length joined)) (then_accepted _ _ taken).0
+module _ (n : ℕ) (counts : List ℕ) (joined : List Float) (values : ℕ) (taken : checks_of n counts joined values ≡ accepted) where
+  pub passed : Passed n counts values (Some (length joined))
+  passed = passed_by n counts values (Some (length joined)) (then_accepted _ _ taken).0
 
   pub joined_length : length joined ≡ sum (take n counts)
   joined_length = eqb-true (length joined) (sum (take n counts)) (not-false _ passed.joined)
 
-pub sized : (f : Format) (n : ℕ) (counts : List ℕ) (joined vals : List Float) (mode : EdgeMode) → (grid_of f n counts joined vals mode).checked ≡ Accepted → Sized (grid_of f n counts joined vals mode)
+pub sized : (f : Format) (n : ℕ) (counts : List ℕ) (joined vals : List Float) (mode : EdgeMode) → (grid_of f n counts joined vals mode).checked ≡ accepted → Sized (grid_of f n counts joined vals mode)
 sized f n counts joined vals mode e =
     sized-by (grid_of f n counts joined vals mode) (passed n counts joined (length vals) e)
     (grid_counts_lem f mode (take n counts) joined (joined_length n counts joined (length vals) e))
 
 -- what `check_order` asks, once checks 1 to 4 have passed
-pub orderable : (n : ℕ) (counts : List ℕ) (joined : List Float) (values : ℕ) → length counts ≡ 4 → size_checks n counts values (Joined (length joined)) ≡ Accepted → (n ≤ 4) × (sum (take n counts) ≡ length joined) × ((i : ℕ) → i < n → 4 ≤ get_or counts i 0)
+pub orderable : (n : ℕ) (counts : List ℕ) (joined : List Float) (values : ℕ) → length counts ≡ 4 → size_checks n counts values (Some (length joined)) ≡ accepted → (n ≤ 4) × (sum (take n counts) ≡ length joined) × ((i : ℕ) → i < n → 4 ≤ get_or counts i 0)
 orderable n counts joined values four e =
-    let p = accepted n counts values (Joined (length joined)) e in
-    (p.few, sym (eqb-true (length joined) (sum (take n counts)) (not-false _ p.joined)), each_long n counts values (Joined (length joined)) p four)
+    let p = passed_by n counts values (Some (length joined)) e in
+    (p.few, sym (eqb-true (length joined) (sum (take n counts)) (not-false _ p.joined)), each_long n counts values (Some (length joined)) p four)

@@ -1,9 +1,8 @@
 -- Section 2 and clause 3.7, rectilinear: the axes are joined, and an axis is a part of them.
-use Rattle.std.specs.Prelude.{ℕ, Bool, List, map, length, get_or, take, Float}
+use Rattle.std.specs.Prelude.{ℕ, Bool, List, Some, map, length, get_or, take, Float}
 use Rattle.std.specs.Float.{nan, Format}
-use Rattle.multicubic.specs.declared.AxesLength.TheVariants.{Joined}
+use Rattle.multicubic.specs.Types.{Outcome}
 use Rattle.multicubic.specs.declared.EdgeMode.{EdgeMode}
-use Rattle.multicubic.specs.declared.Outcome.{Outcome}
 use Rattle.multicubic.specs.Grid.{◌then◌, size_checks}
 use Rattle.rectilinear_order.specs.Grid.{axes_of, order_checks}
 use Rattle.rectilinear_axis.specs.Place.{loc_of}
@@ -14,7 +13,7 @@ use Rattle.grid.specs.Nodes.{All}
 
 -- checks 1 to 6, then 10
 abbrev pub checks_of : ℕ → List ℕ → List Float → ℕ → Outcome
-checks_of n counts joined values = size_checks n counts values (Joined (length joined)) then order_checks (axes_of (take n counts) joined)
+checks_of n counts joined values = size_checks n counts values (Some (length joined)) then order_checks (axes_of (take n counts) joined)
 
 abbrev pub grid_axis : Format → Bool → List Float → GridAxis
 grid_axis f straight entries = record {

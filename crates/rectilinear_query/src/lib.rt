@@ -4,8 +4,7 @@
 ghost use Rattle.std.specs.Prelude.{◌≡◌, Bool, ◌+◌, ◌*◌, ◌≤◌, ◌<◌, length};
 ghost use Rattle.std.specs.Float.{binary64};
 ghost use Rattle.multicubic.specs.declared.EdgeMode.{EdgeMode};
-ghost use Rattle.multicubic.specs.declared.Outcome.TheVariants.{Accepted};
-ghost use Rattle.multicubic.specs.Same.{as_answer};
+ghost use Rattle.multicubic.specs.Types.{accepted};
 ghost use Rattle.grid.specs.Query.{at, marks_beside};
 ghost use Rattle.grid.specs.Batch.{found_at};
 ghost use Rattle.grid.specs.Internal.{replaced_in, row_by, Asked, answer_to};
@@ -13,10 +12,7 @@ ghost use Rattle.rectilinear_query.specs.Grid.{grid_axis, axes_in};
 ghost use Rattle.rectilinear_query.specs.Internal.{Taken, Ready};
 
 use grid::{Quantity, is_component};
-use multicubic::{
-    Answer, EdgeMode, Loc, Marks, Outcome, Place, answered, is_past, linearize_extrapolation,
-    place_outcome, unmarked,
-};
+use multicubic::{Answer, EdgeMode, Marks, Outcome, Place, place_at, unmarked};
 use rectilinear_axis::{derivatives_at, get_loc, hold, marks_at, weights_at};
 use reduction::{reduce1, reduce2, reduce3, reduce4};
 
@@ -30,8 +26,7 @@ pub fn replaced_at(entries: &[f64], given: f64, mode: EdgeMode) -> Marks
         above: false,
     };
     match mode {
-        EdgeMode::Cubic => neither,
-        EdgeMode::Straight => neither,
+        EdgeMode::Cubic | EdgeMode::Straight => neither,
         EdgeMode::Held => marks_at(entries, given),
     }
 }
@@ -48,29 +43,26 @@ pub fn row_at(
     requires { place.origin + 4 ≤ length entries.now }
     ensures { result ≡ row_by replaced (grid_axis binary64 linearize_extrapolation entries.now) x place derivative }
 {
-    if derivative {
-        if is_past(replaced) {
-            return [0.0; 4];
-        }
-        return derivatives_at(entries, x, place, linearize_extrapolation);
+    if !derivative {
+        weights_at(entries, x, place, linearize_extrapolation)
+    } else if replaced.is_past() {
+        [0.0; 4]
+    } else {
+        derivatives_at(entries, x, place, linearize_extrapolation)
     }
-    weights_at(entries, x, place, linearize_extrapolation)
 }
 
 // Past which ends of each of its axes a query lies.
 fn marks_along(axis_count: usize, counts: [usize; 4], axes: &[f64], x: [f64; 4]) -> [Marks; 4]
     requires { Taken axis_count counts axes.now }
-    ensures { (mode : EdgeMode) → result ≡ marks_beside Accepted (axes_in binary64 mode axis_count counts axes.now) (at x) }
+    ensures { (mode : EdgeMode) → result ≡ marks_beside accepted (axes_in binary64 mode axis_count counts axes.now) (at x) }
 {
     let mut marks = unmarked();
     let mut start: usize = 0;
-    let mut i: usize = 0;
-    while i < axis_count {
+    for i in 0..axis_count {
         let end = start + counts[i];
-        let given = x[i];
-        marks[i] = marks_at(&axes[start..end], given);
+        marks[i] = marks_at(&axes[start..end], x[i]);
         start = end;
-        i += 1;
     }
     marks
 }
@@ -83,12 +75,12 @@ pub fn marks_of(
     axes: &[f64],
     x: [f64; 4],
 ) -> [Marks; 4]
-    requires { outcome ≡ Accepted → Taken axis_count counts axes.now }
+    requires { outcome ≡ accepted → Taken axis_count counts axes.now }
     ensures { (mode : EdgeMode) → result ≡ marks_beside outcome (axes_in binary64 mode axis_count counts axes.now) (at x) }
 {
     match outcome {
-        Outcome::Refused { .. } => unmarked(),
-        Outcome::Accepted => marks_along(axis_count, counts, axes, x),
+        Err(_) => unmarked(),
+        Ok(()) => marks_along(axis_count, counts, axes, x),
     }
 }
 
@@ -105,49 +97,36 @@ pub fn answer_at(
     count: usize,
     i: usize,
     quantity: Quantity,
-) -> Answer
+) -> Answer<f64>
     requires ready { Ready axis_count counts axes.now (length vals.now) strides }
     requires i_lt_count { (i < count) × (axis_count * count ≤ length queries.now) }
     requires asked { Asked axis_count quantity }
-    ensures { as_answer result ≡ answer_to binary64 (axes_in binary64 mode axis_count counts axes.now)
+    ensures { result ≡ answer_to binary64 (axes_in binary64 mode axis_count counts axes.now)
         vals.now quantity i
         (found_at (axes_in binary64 mode axis_count counts axes.now) count queries.now i) }
 {
-    let straight = linearize_extrapolation(mode);
+    let straight = mode.linearize_extrapolation();
     let mut rows = [[0.0; 4]; 4];
     let mut base: usize = 0;
     let mut at = i;
     let mut start: usize = 0;
-    let mut axis: usize = 0;
-    while axis < axis_count {
+    for axis in 0..axis_count {
         let given = queries[at];
         let end = start + counts[axis];
         let entries = &axes[start..end];
         let replaced = replaced_at(entries, given, mode);
         let used = hold(entries, given, replaced);
-        let loc = get_loc(entries, used);
-        let place = match loc {
-            Loc::At(place) => place,
-            Loc::NotANumber => return answered(place_outcome(i, axis, loc), 0.0),
-            Loc::Unplaceable => return answered(place_outcome(i, axis, loc), 0.0),
-        };
+        let place = place_at(i, axis, get_loc(entries, used))?;
         let derivative = is_component(quantity, axis);
         rows[axis] = row_at(entries, used, place, straight, derivative, replaced);
-        let o = place.origin;
-        let s = strides[axis];
-        base = base + o * s;
-        at = at + count;
+        base += place.origin * strides[axis];
+        at += count;
         start = end;
-        axis += 1;
     }
-    if axis_count == 3 {
-        return Answer::Value(reduce3(vals, rows, strides, base));
-    }
-    if axis_count == 1 {
-        return Answer::Value(reduce1(vals, rows, strides, base));
-    }
-    if axis_count == 2 {
-        return Answer::Value(reduce2(vals, rows, strides, base));
-    }
-    Answer::Value(reduce4(vals, rows, strides, base))
+    Ok(match axis_count {
+        1 => reduce1(vals, rows, strides, base),
+        2 => reduce2(vals, rows, strides, base),
+        3 => reduce3(vals, rows, strides, base),
+        _ => reduce4(vals, rows, strides, base),
+    })
 }

@@ -3,29 +3,28 @@
 #![tactic(auto)]
 
 ghost use Rattle.std.specs.Prelude.{◌≡◌};
-ghost use Rattle.std.specs.Float.{binary64};
 ghost use Rattle.std.specs.Float.Ieee.{div, neg};
 ghost use Rattle.ieee.specs.Numbers.{one};
 ghost use Rattle.rectilinear_weights.specs.Weights.{centered_difference, interior, cubic_low, cubic_high, low_of, low_slope_of, high_of, high_slope_of};
 
-use interp_math::{hermite_basis, hermite_basis_derivative, mul_add};
+use interp_math::{Real, hermite_basis, hermite_basis_derivative, mul_add};
 
 // Second-order central difference weights on unequal gaps.
-fn centered_difference_weights(h01: f64, h12: f64) -> [f64; 3]
-    ensures { result ≡ centered_difference binary64 h01 h12 }
+fn centered_difference_weights<T: Real>(h01: T, h12: T) -> [T; 3]
+    ensures { T.floats result ≡ centered_difference T.format (T.float h01) (T.float h12) }
 {
     let denom = h01 + h12;
     let a = h01 / denom;
     let c = h12 / denom;
-    [-c / h01, mul_add(c, 1.0 / h01, -a / h12), a / h12]
+    [-c / h01, mul_add(c, T::one() / h01, -a / h12), a / h12]
 }
 
 // The row inside, from the basis of t or from its derivative, and from the gaps beside the middle one, over it.
-pub fn interior(h: [f64; 4], h01: f64, h23: f64) -> [f64; 4]
-    ensures { result ≡ interior binary64 h (centered_difference binary64 h01 one) (centered_difference binary64 one h23) }
+pub fn interior<T: Real>(h: [T; 4], h01: T, h23: T) -> [T; 4]
+    ensures { T.floats result ≡ interior T.format (T.floats h) (centered_difference T.format (T.float h01) one) (centered_difference T.format one (T.float h23)) }
 {
-    let k0 = centered_difference_weights(h01, 1.0);
-    let k1 = centered_difference_weights(1.0, h23);
+    let k0 = centered_difference_weights(h01, T::one());
+    let k1 = centered_difference_weights(T::one(), h23);
     let h10 = h[1];
     let h11 = h[3];
     [
@@ -37,10 +36,10 @@ pub fn interior(h: [f64; 4], h01: f64, h23: f64) -> [f64; 4]
 }
 
 // The same at the ends, from the slope beside the end.
-fn cubic_low(h: [f64; 4], k0: [f64; 3]) -> [f64; 4]
-    ensures { result ≡ cubic_low binary64 h k0 }
+fn cubic_low<T: Real>(h: [T; 4], k0: [T; 3]) -> [T; 4]
+    ensures { T.floats result ≡ cubic_low T.format (T.floats h) (T.floats k0) }
 {
-    let one = 1.0;
+    let one = T::one();
     let two = one + one;
     let h11 = h[3];
     let slope_factor = h11 - h[1];
@@ -48,19 +47,19 @@ fn cubic_low(h: [f64; 4], k0: [f64; 3]) -> [f64; 4]
         h[2] + two * h11 + slope_factor * k0[0],
         h[0] - two * h11 + slope_factor * k0[1],
         slope_factor * k0[2],
-        0.0,
+        T::zero(),
     ]
 }
 
-fn cubic_high(h: [f64; 4], k0: [f64; 3]) -> [f64; 4]
-    ensures { result ≡ cubic_high binary64 h k0 }
+fn cubic_high<T: Real>(h: [T; 4], k0: [T; 3]) -> [T; 4]
+    ensures { T.floats result ≡ cubic_high T.format (T.floats h) (T.floats k0) }
 {
-    let one = 1.0;
+    let one = T::one();
     let two = one + one;
     let h11 = h[3];
     let slope_factor = h[1] - h11;
     [
-        0.0,
+        T::zero(),
         slope_factor * k0[0],
         h[0] - two * h11 + slope_factor * k0[1],
         h[2] + two * h11 + slope_factor * k0[2],
@@ -68,63 +67,78 @@ fn cubic_high(h: [f64; 4], k0: [f64; 3]) -> [f64; 4]
 }
 
 // At the low end t runs against the query.
-pub fn low_weights(x: f64, h01: f64, h12: f64, linearize_extrapolation: bool) -> [f64; 4]
-    ensures { result ≡ low_of binary64 (div binary64 (neg x) h01) (div binary64 h12 h01) linearize_extrapolation }
+pub fn low_weights<T: Real>(x: T, h01: T, h12: T, linearize_extrapolation: bool) -> [T; 4]
+    ensures { T.floats result ≡ low_of T.format (div T.format (neg (T.float x)) (T.float h01)) (div T.format (T.float h12) (T.float h01)) linearize_extrapolation }
 {
-    let one = 1.0;
+    let one = T::one();
     let two = one + one;
     let t = -x / h01;
     let k0 = centered_difference_weights(one, h12 / h01);
     if linearize_extrapolation {
         let s = t - one;
-        [one + s * (two + k0[0]), s * (-two + k0[1]), s * k0[2], 0.0]
+        [
+            one + s * (two + k0[0]),
+            s * (-two + k0[1]),
+            s * k0[2],
+            T::zero(),
+        ]
     } else {
         cubic_low(hermite_basis(t), k0)
     }
 }
 
 // Derivatives are by t.
-pub fn low_weight_derivatives(x: f64, h01: f64, h12: f64, linearize_extrapolation: bool) -> [f64; 4]
-    ensures { result ≡ low_slope_of binary64 (div binary64 (neg x) h01) (div binary64 h12 h01) linearize_extrapolation }
+pub fn low_weight_derivatives<T: Real>(
+    x: T,
+    h01: T,
+    h12: T,
+    linearize_extrapolation: bool,
+) -> [T; 4]
+    ensures { T.floats result ≡ low_slope_of T.format (div T.format (neg (T.float x)) (T.float h01)) (div T.format (T.float h12) (T.float h01)) linearize_extrapolation }
 {
-    let one = 1.0;
+    let one = T::one();
     let two = one + one;
     let k0 = centered_difference_weights(one, h12 / h01);
     if linearize_extrapolation {
-        [two + k0[0], -two + k0[1], k0[2], 0.0]
+        [two + k0[0], -two + k0[1], k0[2], T::zero()]
     } else {
         cubic_low(hermite_basis_derivative(-x / h01), k0)
     }
 }
 
-pub fn high_weights(x: f64, h12: f64, h23: f64, linearize_extrapolation: bool) -> [f64; 4]
-    ensures { result ≡ high_of binary64 (div binary64 x h23) (div binary64 h12 h23) linearize_extrapolation }
+pub fn high_weights<T: Real>(x: T, h12: T, h23: T, linearize_extrapolation: bool) -> [T; 4]
+    ensures { T.floats result ≡ high_of T.format (div T.format (T.float x) (T.float h23)) (div T.format (T.float h12) (T.float h23)) linearize_extrapolation }
 {
-    let one = 1.0;
+    let one = T::one();
     let two = one + one;
     let t = x / h23;
     let k0 = centered_difference_weights(h12 / h23, one);
     if linearize_extrapolation {
         let s = t - one;
-        [0.0, -s * k0[0], s * (-two - k0[1]), one + s * (two - k0[2])]
+        [
+            T::zero(),
+            -s * k0[0],
+            s * (-two - k0[1]),
+            one + s * (two - k0[2]),
+        ]
     } else {
         cubic_high(hermite_basis(t), k0)
     }
 }
 
-pub fn high_weight_derivatives(
-    x: f64,
-    h12: f64,
-    h23: f64,
+pub fn high_weight_derivatives<T: Real>(
+    x: T,
+    h12: T,
+    h23: T,
     linearize_extrapolation: bool,
-) -> [f64; 4]
-    ensures { result ≡ high_slope_of binary64 (div binary64 x h23) (div binary64 h12 h23) linearize_extrapolation }
+) -> [T; 4]
+    ensures { T.floats result ≡ high_slope_of T.format (div T.format (T.float x) (T.float h23)) (div T.format (T.float h12) (T.float h23)) linearize_extrapolation }
 {
-    let one = 1.0;
+    let one = T::one();
     let two = one + one;
     let k0 = centered_difference_weights(h12 / h23, one);
     if linearize_extrapolation {
-        [0.0, -k0[0], -two - k0[1], two - k0[2]]
+        [T::zero(), -k0[0], -two - k0[1], two - k0[2]]
     } else {
         cubic_high(hermite_basis_derivative(x / h23), k0)
     }

@@ -10,16 +10,15 @@ ghost use Rattle.rectilinear_query.specs.Grid.{axes_in, grid_of};
 ghost use Rattle.rectilinear_query.specs.Internal.{Ready};
 ghost use Rattle.shared_sums.specs.Sums.{sums_answer};
 ghost use Rattle.shared_sums.specs.Internal.{BothTo};
-ghost use Rattle.multicubic_f32.specs.Same.{as_answer};
 
-use multicubic::{EdgeMode, Loc, Outcome, linearize_extrapolation, place_outcome};
-use multicubic_f32::AnswerF32;
-use rectilinear_axis_f32::{get_loc, hold};
+use multicubic::{EdgeMode, place_at};
+use rectilinear_axis::{get_loc, hold};
 use rectilinear_f32::new;
 use rectilinear_query_f32::{marks_of, replaced_at, row_at};
 use reduction::strides;
-use shared_reduction_f32::reduce_shared;
-use with_grad_f32::{ValueAndGradientF32, refused};
+use shared_reduction::reduce_shared;
+use with_grad::ValueAndGradient;
+use with_grad_f32::refused;
 
 // On a grid that is taken, in one pass over the axes: the coordinate as used in place of the one given, place, weigh twice, add to the index of the
 // block's first value; then reduce.
@@ -31,46 +30,39 @@ fn both_at(
     mode: EdgeMode,
     strides: [usize; 4],
     x: [f32; 4],
-) -> ValueAndGradientF32
+) -> ValueAndGradient<f32>
     requires { Ready axis_count counts axes.now (length vals.now) strides }
     ensures { BothTo binary32 axis_count (axes_in binary32 mode axis_count counts axes.now) vals.now (at x)
-        (as_answer result.answer) result.gradient result.marks result.sums.taken }
+        result.answer result.gradient result.marks result.sums.taken }
 {
-    let straight = linearize_extrapolation(mode);
+    let straight = mode.linearize_extrapolation();
     let mut weights = [[0.0; 4]; 4];
     let mut derivatives = [[0.0; 4]; 4];
     let mut base: usize = 0;
     let mut start: usize = 0;
-    let mut axis: usize = 0;
-    while axis < axis_count {
+    for axis in 0..axis_count {
         let given = x[axis];
         let end = start + counts[axis];
         let entries = &axes[start..end];
         let replaced = replaced_at(entries, given, mode);
         let used = hold(entries, given, replaced);
-        let loc = get_loc(entries, used);
-        let place = match loc {
-            Loc::At(place) => place,
-            Loc::NotANumber => return refused(place_outcome(0, axis, loc)),
-            Loc::Unplaceable => return refused(place_outcome(0, axis, loc)),
+        let place = match place_at(0, axis, get_loc(entries, used)) {
+            Ok(place) => place,
+            Err(by) => return refused(Err(by)),
         };
         weights[axis] = row_at(entries, used, place, straight, false, replaced);
         derivatives[axis] = row_at(entries, used, place, straight, true, replaced);
-        let o = place.origin;
-        let s = strides[axis];
-        base = base + o * s;
+        base += place.origin * strides[axis];
         start = end;
-        axis += 1;
     }
     let shared = reduce_shared(axis_count, vals, weights, derivatives, strides, base);
-    let marks = marks_of(Outcome::Accepted, axis_count, counts, axes, x);
+    let marks = marks_of(Ok(()), axis_count, counts, axes, x);
     let gradient = shared.gradient;
-    let sums = shared.sums;
-    ValueAndGradientF32 {
-        answer: AnswerF32::Value(shared.value),
+    ValueAndGradient {
+        answer: Ok(shared.value),
         marks,
         gradient,
-        sums,
+        sums: shared.sums,
     }
 }
 
@@ -83,18 +75,17 @@ pub fn interp_one_with_grad(
     vals: &[f32],
     mode: EdgeMode,
     x: [f32; 4],
-) -> ValueAndGradientF32
-    ensures answer_value { as_answer result.answer ≡ value_answer binary32 (grid_of binary32 axis_count counts axes.now vals.now mode) (at x) }
+) -> ValueAndGradient<f32>
+    ensures answer_value { result.answer ≡ value_answer binary32 (grid_of binary32 axis_count counts axes.now vals.now mode) (at x) }
     ensures gradient_value { result.gradient ≡ gradient_answer binary32 (grid_of binary32 axis_count counts axes.now vals.now mode) (at x) }
     ensures marks_value { result.marks ≡ mark_answer (grid_of binary32 axis_count counts axes.now vals.now mode) (at x) }
     ensures taken_value { result.sums.taken ≡ sums_answer (grid_of binary32 axis_count counts axes.now vals.now mode) (at x) }
-    ensures says { Says (answer_outcome (as_answer result.answer)) (outcome_of (grid_of binary32 axis_count counts axes.now vals.now mode) (at x)) }
-    ensures answer_value_2 { value_in (as_answer result.answer) ≡ value_carried binary32 (grid_of binary32 axis_count counts axes.now vals.now mode) (at x) }
+    ensures says { Says (answer_outcome result.answer) (outcome_of (grid_of binary32 axis_count counts axes.now vals.now mode) (at x)) }
+    ensures answer_value_2 { value_in result.answer ≡ value_carried binary32 (grid_of binary32 axis_count counts axes.now vals.now mode) (at x) }
 {
-    let checked = new(axis_count, counts, axes, vals);
-    match checked {
-        Outcome::Refused { .. } => refused(checked),
-        Outcome::Accepted => both_at(
+    match new(axis_count, counts, axes, vals) {
+        Err(by) => refused(Err(by)),
+        Ok(()) => both_at(
             axis_count,
             counts,
             axes,

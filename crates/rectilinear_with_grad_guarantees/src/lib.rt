@@ -5,7 +5,6 @@
 ghost use Rattle.std.specs.Prelude.{take};
 ghost use Rattle.std.specs.Float.{binary64};
 ghost use Rattle.multicubic.specs.Answers.{answer_outcome};
-ghost use Rattle.multicubic.specs.Same.{as_answer};
 ghost use Rattle.multicubic.specs.declared.EdgeMode.TheVariants.{Held};
 ghost use Rattle.grid.specs.Query.{at};
 ghost use Rattle.rectilinear_order.specs.Grid.{axes_of};
@@ -28,20 +27,20 @@ pub fn alone(
     mode: EdgeMode,
     other_vals: &[f64],
     other_mode: EdgeMode,
-) -> TwoTogether
+) -> TwoTogether<f64>
     ensures owed_alone { OwedAlone (AllPremises binary64 (axes_of (take axis_count counts) axes.now))
         (grid_of binary64 axis_count counts axes.now vals.now mode)
         (grid_of binary64 axis_count counts axes.now other_vals.now other_mode)
-        (at x) (as_answer result.own.answer) (as_answer result.other.answer)
-        (answer_outcome (as_answer result.own.answer)) (answer_outcome (as_answer result.other.answer)) result.own.gradient result.other.gradient }
+        (at x) result.own.answer result.other.answer
+        (answer_outcome result.own.answer) (answer_outcome result.other.answer) result.own.gradient result.other.gradient }
     ensures block_sums { BlockSums
         (grid_of binary64 axis_count counts axes.now vals.now mode)
         (grid_of binary64 axis_count counts axes.now other_vals.now other_mode)
         (at x) result.own.sums.taken result.other.sums.taken }
     ensures together_of { TogetherOf binary64 (grid_of binary64 axis_count counts axes.now vals.now mode) (at x)
-        (as_answer result.own.answer) result.own.gradient result.own.marks result.own.sums.taken }
+        result.own.answer result.own.gradient result.own.marks result.own.sums.taken }
     ensures together_of_2 { TogetherOf binary64 (grid_of binary64 axis_count counts axes.now other_vals.now other_mode) (at x)
-        (as_answer result.other.answer) result.other.gradient result.other.marks result.other.sums.taken }
+        result.other.answer result.other.gradient result.other.marks result.other.sums.taken }
 {
     let own = rectilinear_with_grad::interp_one_with_grad(axis_count, counts, axes, vals, mode, x);
     let other = rectilinear_with_grad::interp_one_with_grad(
@@ -57,11 +56,11 @@ pub fn held_edge(
     axes: &[f64],
     vals: &[f64],
     x: [f64; 4],
-) -> ValueAndGradient
+) -> ValueAndGradient<f64>
     ensures held_edge { HeldEdge (AllPremises binary64 (axes_of (take axis_count counts) axes.now))
-        (grid_of binary64 axis_count counts axes.now vals.now Held) (at x) (as_answer result.answer) }
+        (grid_of binary64 axis_count counts axes.now vals.now Held) (at x) result.answer }
     ensures together_of { TogetherOf binary64 (grid_of binary64 axis_count counts axes.now vals.now Held) (at x)
-        (as_answer result.answer) result.gradient result.marks result.sums.taken }
+        result.answer result.gradient result.marks result.sums.taken }
 {
     rectilinear_with_grad::interp_one_with_grad(axis_count, counts, axes, vals, EdgeMode::Held, x)
 }
@@ -74,11 +73,11 @@ pub fn unmarked_at_node(
     vals: &[f64],
     mode: EdgeMode,
     x: [f64; 4],
-) -> ValueAndGradient
+) -> ValueAndGradient<f64>
     ensures unmarked_at_node { UnmarkedAtNode (AllPremises binary64 (axes_of (take axis_count counts) axes.now))
         (grid_of binary64 axis_count counts axes.now vals.now mode) (at x) result.marks }
     ensures together_of { TogetherOf binary64 (grid_of binary64 axis_count counts axes.now vals.now mode) (at x)
-        (as_answer result.answer) result.gradient result.marks result.sums.taken }
+        result.answer result.gradient result.marks result.sums.taken }
 {
     rectilinear_with_grad::interp_one_with_grad(axis_count, counts, axes, vals, mode, x)
 }
@@ -91,11 +90,11 @@ pub fn as_apart(
     vals: &[f64],
     mode: EdgeMode,
     x: [f64; 4],
-) -> ApartAndTogether
-    ensures as_apart { AsApart axis_count (as_answer result.both.answer) (as_answer result.value.answer) result.gradient.answer.outcome
+) -> ApartAndTogether<f64>
+    ensures as_apart { AsApart axis_count result.both.answer result.value.answer result.gradient.answer.outcome
         result.both.gradient result.gradient.answer.gradient result.both.marks result.value.marks result.gradient.marks result.both.sums.taken }
     ensures together_of { TogetherOf binary64 (grid_of binary64 axis_count counts axes.now vals.now mode) (at x)
-        (as_answer result.both.answer) result.both.gradient result.both.marks result.both.sums.taken }
+        result.both.answer result.both.gradient result.both.marks result.both.sums.taken }
 {
     let value = rectilinear::interp_one(axis_count, counts, axes, vals, mode, x);
     let gradient = rectilinear::interp_one_grad(axis_count, counts, axes, vals, mode, x);

@@ -13,11 +13,10 @@ ghost use Rattle.rectilinear_query.specs.Grid.{grid_of, AllPremises};
 ghost use Rattle.guarantees.specs.Marked.{UnmarkedAtNode};
 ghost use Rattle.guarantees.specs.Statements.{HeldEdge, OwedAlone};
 ghost use Rattle.with_grad_guarantees.specs.Together.{BlockSums, TogetherOf, AsApart};
-ghost use Rattle.multicubic_f32.specs.Same.{as_answer};
 
 use multicubic::EdgeMode;
-use with_grad_f32::ValueAndGradientF32;
-use with_grad_guarantees_f32::{ApartAndTogetherF32, TwoTogetherF32};
+use with_grad::ValueAndGradient;
+use with_grad_guarantees::{ApartAndTogether, TwoTogether};
 
 // A query asked of both tables.
 pub fn alone(
@@ -29,20 +28,20 @@ pub fn alone(
     mode: EdgeMode,
     other_vals: &[f32],
     other_mode: EdgeMode,
-) -> TwoTogetherF32
+) -> TwoTogether<f32>
     ensures owed_alone { OwedAlone (AllPremises binary32 (axes_of (take axis_count counts) axes.now))
         (grid_of binary32 axis_count counts axes.now vals.now mode)
         (grid_of binary32 axis_count counts axes.now other_vals.now other_mode)
-        (at x) (as_answer result.own.answer) (as_answer result.other.answer)
-        (answer_outcome (as_answer result.own.answer)) (answer_outcome (as_answer result.other.answer)) result.own.gradient result.other.gradient }
+        (at x) result.own.answer result.other.answer
+        (answer_outcome result.own.answer) (answer_outcome result.other.answer) result.own.gradient result.other.gradient }
     ensures block_sums { BlockSums
         (grid_of binary32 axis_count counts axes.now vals.now mode)
         (grid_of binary32 axis_count counts axes.now other_vals.now other_mode)
         (at x) result.own.sums.taken result.other.sums.taken }
     ensures together_of { TogetherOf binary32 (grid_of binary32 axis_count counts axes.now vals.now mode) (at x)
-        (as_answer result.own.answer) result.own.gradient result.own.marks result.own.sums.taken }
+        result.own.answer result.own.gradient result.own.marks result.own.sums.taken }
     ensures together_of_2 { TogetherOf binary32 (grid_of binary32 axis_count counts axes.now other_vals.now other_mode) (at x)
-        (as_answer result.other.answer) result.other.gradient result.other.marks result.other.sums.taken }
+        result.other.answer result.other.gradient result.other.marks result.other.sums.taken }
 {
     let own = rectilinear_with_grad_f32::interp_one_with_grad(
         axis_count, counts, axes, vals, mode, x,
@@ -50,7 +49,7 @@ pub fn alone(
     let other = rectilinear_with_grad_f32::interp_one_with_grad(
         axis_count, counts, axes, other_vals, other_mode, x,
     );
-    TwoTogetherF32 { own, other }
+    TwoTogether { own, other }
 }
 
 // Clause 8.6: a query past the ends, or at nodes, of a grid that holds its edges.
@@ -60,11 +59,11 @@ pub fn held_edge(
     axes: &[f32],
     vals: &[f32],
     x: [f32; 4],
-) -> ValueAndGradientF32
+) -> ValueAndGradient<f32>
     ensures held_edge { HeldEdge (AllPremises binary32 (axes_of (take axis_count counts) axes.now))
-        (grid_of binary32 axis_count counts axes.now vals.now Held) (at x) (as_answer result.answer) }
+        (grid_of binary32 axis_count counts axes.now vals.now Held) (at x) result.answer }
     ensures together_of { TogetherOf binary32 (grid_of binary32 axis_count counts axes.now vals.now Held) (at x)
-        (as_answer result.answer) result.gradient result.marks result.sums.taken }
+        result.answer result.gradient result.marks result.sums.taken }
 {
     rectilinear_with_grad_f32::interp_one_with_grad(
         axis_count,
@@ -84,11 +83,11 @@ pub fn unmarked_at_node(
     vals: &[f32],
     mode: EdgeMode,
     x: [f32; 4],
-) -> ValueAndGradientF32
+) -> ValueAndGradient<f32>
     ensures unmarked_at_node { UnmarkedAtNode (AllPremises binary32 (axes_of (take axis_count counts) axes.now))
         (grid_of binary32 axis_count counts axes.now vals.now mode) (at x) result.marks }
     ensures together_of { TogetherOf binary32 (grid_of binary32 axis_count counts axes.now vals.now mode) (at x)
-        (as_answer result.answer) result.gradient result.marks result.sums.taken }
+        result.answer result.gradient result.marks result.sums.taken }
 {
     rectilinear_with_grad_f32::interp_one_with_grad(axis_count, counts, axes, vals, mode, x)
 }
@@ -101,18 +100,18 @@ pub fn as_apart(
     vals: &[f32],
     mode: EdgeMode,
     x: [f32; 4],
-) -> ApartAndTogetherF32
-    ensures as_apart { AsApart axis_count (as_answer result.both.answer) (as_answer result.value.answer) result.gradient.answer.outcome
+) -> ApartAndTogether<f32>
+    ensures as_apart { AsApart axis_count result.both.answer result.value.answer result.gradient.answer.outcome
         result.both.gradient result.gradient.answer.gradient result.both.marks result.value.marks result.gradient.marks result.both.sums.taken }
     ensures together_of { TogetherOf binary32 (grid_of binary32 axis_count counts axes.now vals.now mode) (at x)
-        (as_answer result.both.answer) result.both.gradient result.both.marks result.both.sums.taken }
+        result.both.answer result.both.gradient result.both.marks result.both.sums.taken }
 {
     let value = rectilinear_f32::interp_one(axis_count, counts, axes, vals, mode, x);
     let gradient = rectilinear_f32::interp_one_grad(axis_count, counts, axes, vals, mode, x);
     let both = rectilinear_with_grad_f32::interp_one_with_grad(
         axis_count, counts, axes, vals, mode, x,
     );
-    ApartAndTogetherF32 {
+    ApartAndTogether {
         value,
         gradient,
         both,

@@ -1,7 +1,7 @@
 -- Laws of the reduction, the axis count a parameter: only the block is read; the last axis is summed at the end; reading by a running index
 -- from a base index and strides.
 use mathlib.Core.Path.{◌≡◌, refl, sym, ap, ◌∙◌}
-use mathlib.Core.List.{List, [], ◌∷◌, ◌++◌}
+use mathlib.Core.List.{List, [], ◌∷◌, ◌++◌, map}
 use Prim.Native.Nat.{ℕ, zero, suc, ◌+◌, ◌*◌, ◌≤◌, ◌<◌}
 use native.Mathlib.Nat.{add-zero, add-mul, suc-mul, mul-le-mul_right}
 use native.Mathlib.Omega.{arith}
@@ -10,6 +10,7 @@ use lib.ListN.{length, get_or, take, length-append}
 use lib.Seq.{take-suc, length-take-le}
 use lib.Ieee.{Float, nan, Format}
 use Rattle.interp_math.specs.Dot.{dot4}
+use Rattle.interp_math.proofs.Lists.{float_at, row_at, rows_length}
 use Rattle.reduction.specs.Value.{offset, shifted, block, four, reduce_of}
 use Rattle.reduction.specs.Internal.{reach, from, added, Along, Reads}
 use Rattle.reduction.specs.Nodes.{InBlock}
@@ -110,6 +111,22 @@ pub leaf : (f : Format) (vals : List Float) (ss : List ℕ) (base : ℕ) → get
 unfolding reduce_of
 leaf f vals ss base = ap (λ (z : ℕ). get_or vals z nan) (sym (add-zero base))
 
+-- ---- the same of values that are read as floats; the last axis as the code has it
+module _ {A : Type 0} {float : A → Float} {floats : List A → List Float} {rows : List (List A) → List (List Float)} (law : (xs : List A) → map float xs ≡ floats xs) (rows_law : (xs : List (List A)) → map (map float) xs ≡ rows xs) (f : Format) (vals : List A) (w : List (List A)) (ss : List ℕ) (base : ℕ) where
+  pub leaf_read : (x : A) → base < length vals → x ≡ get_or vals base x → float x ≡ reduce_of f [] (from (floats vals) ss base)
+  leaf_read x l e = sym (float_at law vals base x l e) ∙ leaf f (floats vals) ss base
+
+  pub step_read : (last k : ℕ) → last ≡ k → k < length w → k < length ss → (is : List ℕ) → Along base (get_or ss last 0) is
+      → (v0 v1 v2 v3 r : A)
+      → float v0 ≡ reduce_of f (take k (rows w)) (from (floats vals) ss (get_or is 0 0))
+      → float v1 ≡ reduce_of f (take k (rows w)) (from (floats vals) ss (get_or is 1 0))
+      → float v2 ≡ reduce_of f (take k (rows w)) (from (floats vals) ss (get_or is 2 0))
+      → float v3 ≡ reduce_of f (take k (rows w)) (from (floats vals) ss (get_or is 3 0))
+      → float r ≡ dot4 f (floats (get_or w last [])) (floats (v0 ∷ v1 ∷ v2 ∷ v3 ∷ [])) → float r ≡ reduce_of f (take (suc k) (rows w)) (from (floats vals) ss base)
+  step_read last k n kw ks is along v0 v1 v2 v3 r e0 e1 e2 e3 e =
+      step_is f (floats vals) (rows w) ss k base (rw (rows_length law rows_law w) kw) ks is (rw n at along) (float v0) (float v1) (float v2) (float v3) (float r) e0 e1 e2 e3
+      ((rw n at e) ∙ sym (λ i. dot4 f (row_at law rows_law w k kw i) (law (v0 ∷ v1 ∷ v2 ∷ v3 ∷ []) i)))
+
 -- ---- the block at its origins is read from the base index
 offset-shifted : (os js ss : List ℕ) → length js ≡ length os → length os ≤ length ss → offset (shifted os js) ss ≡ offset os ss + offset js ss
 offset-shifted [] [] ss e d = refl
@@ -149,6 +166,16 @@ pub from_block : (f : Format) (vals : List Float) (ws : List (List Float)) (ss o
 from_block f vals ws ss os n base lw lo ls e =
     reduce_agree f ws (from vals ss base) (block vals (take n ss) os)
     (λ js i. ap (λ (o : ℕ). get_or vals o nan) (from_origins n base os js ss lo (in_length (length ws) js i ∙ lw) ls e))
+
+-- ---- how far a block reaches: by its last axis, and by those before it
+pub reach_next : (ss : List ℕ) (k : ℕ) → k < length ss → reach (take (suc k) ss) ≡ reach (take k ss) + 3 * get_or ss k 0
+reach_next [] k h = absurd (omega arith)
+reach_next (s ∷ ss) zero h = omega arith
+reach_next (s ∷ ss) (suc k) h = let e = reach_next ss k (omega arith) in omega (arith, e)
+
+-- from each of the four indices along the last axis on, the block over the axes before it lies within the values; the last axis as the code has it
+pub hand_room : (last k base values : ℕ) (ss is : List ℕ) → last ≡ k → k < length ss → Along base (get_or ss last 0) is → base + reach (take (suc k) ss) < values → (j : ℕ) → j < 4 → get_or is j 0 + reach (take k ss) < values
+hand_room last k base values ss is n h along room j l = along_room base (get_or ss k 0) (reach (take k ss)) values j is (rw n at along) l (let e = reach_next ss k h in omega arith)
 
 -- how far the reductions over one to four axes reach
 pub reaches : (ss : List ℕ) → length ss ≡ 4 → (reach (take 1 ss) ≡ 3 * get_or ss 0 0) × (reach (take 2 ss) ≡ 3 * get_or ss 0 0 + 3 * get_or ss 1 0) × (reach (take 3 ss) ≡ 3 * get_or ss 0 0 + 3 * get_or ss 1 0 + 3 * get_or ss 2 0) × (reach (take 4 ss) ≡ 3 * get_or ss 0 0 + 3 * get_or ss 1 0 + 3 * get_or ss 2 0 + 3 * get_or ss 3 0)

@@ -1,13 +1,13 @@
 // Strides, and the reduction of a block by four-term sums, over 1 to 4 axes: what the value and each component end in.
 #![tactic(auto)]
 
-ghost use Rattle.std.specs.Prelude.{◌≡◌, false, ℕ, ◌+◌, ◌*◌, ◌^◌, ◌≤◌, ◌<◌, length, get_or, take};
-ghost use Rattle.std.specs.Float.{binary64};
+ghost use Rattle.std.specs.Prelude.{◌≡◌, false, ℕ, suc, ◌+◌, ◌*◌, ◌^◌, ◌≤◌, ◌<◌, length, get_or, take};
 ghost use Rattle.multicubic.specs.Grid.{any_over};
 ghost use Rattle.reduction.specs.Value.{strides_of, reduce_of};
-ghost use Rattle.reduction.specs.Internal.{from, Along};
+ghost use Rattle.reduction.specs.Internal.{from, reach, Along};
 
-use interp_math::dot4;
+use interp_math::{Real, dot4};
+use std::marker::PhantomData;
 
 // The strides of the first n axes, the last axis fastest.
 pub fn strides(n: usize, counts: [usize; 4]) -> [usize; 4]
@@ -17,12 +17,9 @@ pub fn strides(n: usize, counts: [usize; 4]) -> [usize; 4]
 {
     let mut strides = [0usize; 4];
     let mut stride: usize = 1;
-    let mut i: usize = n;
-    while 0 < i {
-        i -= 1;
+    for i in (0..n).rev() {
         strides[i] = stride;
-        let count = counts[i];
-        stride = stride * count;
+        stride *= counts[i];
     }
     strides
 }
@@ -38,50 +35,89 @@ pub fn along(base: usize, stride: usize) -> [usize; 4]
     [base, i1, i2, i3]
 }
 
-// The block from its first value's index on, reduced over one axis; then over two, three and four, axis 0 first.
-pub fn reduce1(vals: &[f64], weights: [[f64; 4]; 4], strides: [usize; 4], base: usize) -> f64
+// The axes of a block from the first on, by number: none, or one more. A reduction over them is a function of its own for each number.
+pub trait Axes {
+    ghost number: { ℕ };
+
+    // How many they are.
+    fn number() -> usize
+        requires { number ≤ 4 }
+        ensures { result ≡ number };
+
+    // The block from its first value's index on, reduced over the axes, axis 0 first.
+    fn reduce<T: Real>(vals: &[T], weights: [[T; 4]; 4], strides: [usize; 4], base: usize) -> T
+        requires number_bound { number ≤ 4 }
+        requires within { base + reach (take number strides) < length vals.now }
+        ensures { T.float result ≡ reduce_of T.format (take number (T.rows weights)) (from (T.floats vals.now) strides base) };
+}
+
+pub struct NoAxis;
+
+pub struct OneMore<A: Axes>(PhantomData<A>);
+
+impl Axes for NoAxis {
+    ghost number = { 0 };
+
+    fn number() -> usize {
+        0
+    }
+
+    fn reduce<T: Real>(vals: &[T], _weights: [[T; 4]; 4], _strides: [usize; 4], base: usize) -> T {
+        vals[base]
+    }
+}
+
+impl<A: Axes> Axes for OneMore<A> {
+    ghost number = { suc A.number };
+
+    fn number() -> usize {
+        A::number() + 1
+    }
+
+    fn reduce<T: Real>(vals: &[T], weights: [[T; 4]; 4], strides: [usize; 4], base: usize) -> T {
+        let last = A::number();
+        let at = along(base, strides[last]);
+        let v0 = A::reduce(vals, weights, strides, at[0]);
+        let v1 = A::reduce(vals, weights, strides, at[1]);
+        let v2 = A::reduce(vals, weights, strides, at[2]);
+        let v3 = A::reduce(vals, weights, strides, at[3]);
+        dot4(weights[last], [v0, v1, v2, v3])
+    }
+}
+
+pub type One = OneMore<NoAxis>;
+
+pub type Two = OneMore<One>;
+
+pub type Three = OneMore<Two>;
+
+pub type Four = OneMore<Three>;
+
+// Over one axis, two, three and four.
+pub fn reduce1<T: Real>(vals: &[T], weights: [[T; 4]; 4], strides: [usize; 4], base: usize) -> T
     requires { base + 3 * get_or strides 0 0 < length vals.now }
-    ensures { result ≡ reduce_of binary64 (take 1 weights) (from vals.now strides base) }
+    ensures { T.float result ≡ reduce_of T.format (take 1 (T.rows weights)) (from (T.floats vals.now) strides base) }
 {
-    let at = along(base, strides[0]);
-    dot4(
-        weights[0],
-        [vals[at[0]], vals[at[1]], vals[at[2]], vals[at[3]]],
-    )
+    One::reduce(vals, weights, strides, base)
 }
 
-pub fn reduce2(vals: &[f64], weights: [[f64; 4]; 4], strides: [usize; 4], base: usize) -> f64
+pub fn reduce2<T: Real>(vals: &[T], weights: [[T; 4]; 4], strides: [usize; 4], base: usize) -> T
     requires { base + 3 * get_or strides 0 0 + 3 * get_or strides 1 0 < length vals.now }
-    ensures { result ≡ reduce_of binary64 (take 2 weights) (from vals.now strides base) }
+    ensures { T.float result ≡ reduce_of T.format (take 2 (T.rows weights)) (from (T.floats vals.now) strides base) }
 {
-    let at = along(base, strides[1]);
-    let v0 = reduce1(vals, weights, strides, at[0]);
-    let v1 = reduce1(vals, weights, strides, at[1]);
-    let v2 = reduce1(vals, weights, strides, at[2]);
-    let v3 = reduce1(vals, weights, strides, at[3]);
-    dot4(weights[1], [v0, v1, v2, v3])
+    Two::reduce(vals, weights, strides, base)
 }
 
-pub fn reduce3(vals: &[f64], weights: [[f64; 4]; 4], strides: [usize; 4], base: usize) -> f64
+pub fn reduce3<T: Real>(vals: &[T], weights: [[T; 4]; 4], strides: [usize; 4], base: usize) -> T
     requires { base + 3 * get_or strides 0 0 + 3 * get_or strides 1 0 + 3 * get_or strides 2 0 < length vals.now }
-    ensures { result ≡ reduce_of binary64 (take 3 weights) (from vals.now strides base) }
+    ensures { T.float result ≡ reduce_of T.format (take 3 (T.rows weights)) (from (T.floats vals.now) strides base) }
 {
-    let at = along(base, strides[2]);
-    let v0 = reduce2(vals, weights, strides, at[0]);
-    let v1 = reduce2(vals, weights, strides, at[1]);
-    let v2 = reduce2(vals, weights, strides, at[2]);
-    let v3 = reduce2(vals, weights, strides, at[3]);
-    dot4(weights[2], [v0, v1, v2, v3])
+    Three::reduce(vals, weights, strides, base)
 }
 
-pub fn reduce4(vals: &[f64], weights: [[f64; 4]; 4], strides: [usize; 4], base: usize) -> f64
+pub fn reduce4<T: Real>(vals: &[T], weights: [[T; 4]; 4], strides: [usize; 4], base: usize) -> T
     requires { base + 3 * get_or strides 0 0 + 3 * get_or strides 1 0 + 3 * get_or strides 2 0 + 3 * get_or strides 3 0 < length vals.now }
-    ensures { result ≡ reduce_of binary64 (take 4 weights) (from vals.now strides base) }
+    ensures { T.float result ≡ reduce_of T.format (take 4 (T.rows weights)) (from (T.floats vals.now) strides base) }
 {
-    let at = along(base, strides[3]);
-    let v0 = reduce3(vals, weights, strides, at[0]);
-    let v1 = reduce3(vals, weights, strides, at[1]);
-    let v2 = reduce3(vals, weights, strides, at[2]);
-    let v3 = reduce3(vals, weights, strides, at[3]);
-    dot4(weights[3], [v0, v1, v2, v3])
+    Four::reduce(vals, weights, strides, base)
 }

@@ -1,7 +1,7 @@
 -- The ends of each axis of a regular grid that is accepted are in order: holding twice is holding once (clause 3.7), and no query is marked at both (3.8). And
 -- what the marks of two tables over the same axes have in common.
 use mathlib.Core.Path.{◌≡◌, refl, sym, ◌∙◌}
-use mathlib.Core.Bool.{Bool, false}
+use mathlib.Core.Bool.{false}
 use mathlib.Core.List.{List, [], ◌∷◌}
 use Prim.Native.Nat.{ℕ, ◌-◌}
 use lib.Dec.{T}
@@ -10,10 +10,10 @@ use lib.Ieee.{Float, Format, lt, fits}
 use borrow.Author.Tests.{not-false}
 use Rattle.ieee.specs.Numbers.{zero}
 use Rattle.ieee.proofs.Rises.{multiples_rise}
-use Rattle.multicubic.specs.declared.AxesLength.TheVariants.{Regular}
-use Rattle.multicubic.specs.declared.Axis.{Axis}
+use Rattle.std.specs.Prelude.{None}
+use Rattle.multicubic.specs.declared.Check.TheVariants.{NotRising}
+use Rattle.multicubic.specs.Types.{Axis, accepted}
 use Rattle.multicubic.specs.declared.EdgeMode.{EdgeMode}
-use Rattle.multicubic.specs.declared.Outcome.TheVariants.{Accepted}
 use Rattle.multicubic.specs.Grid.{lowest, size_checks}
 use Rattle.multicubic.proofs.Passed.{then_accepted}
 use Rattle.grid.specs.Query.{GridAxis, hold, outcome_of, mark_answer}
@@ -34,9 +34,9 @@ ends_of f mode (a ∷ axes) fit sound =
     let rises = multiples_rise f a.start a.step (a.count - 1) fit.0 (not-false (lt zero a.step) sound.0) in
     (edge_ends mode (λ straight. grid_axis f straight a) (λ straight. rises), ends_of f mode axes fit.1 sound.1)
 
-module _ (f : Format) (n : ℕ) (axes : List Axis) (vals : List Float) (mode : EdgeMode) (e : (grid_of f n axes vals mode).checked ≡ Accepted) (fit : StartsFit f (take n axes)) where
+module _ (f : Format) (n : ℕ) (axes : List Axis) (vals : List Float) (mode : EdgeMode) (e : (grid_of f n axes vals mode).checked ≡ accepted) (fit : StartsFit f (take n axes)) where
   ends : All EndsInOrder (axes_in f mode n axes)
-  ends = ends_of f mode (take n axes) fit (all_sound 5 not_rising 0 (take n axes) (then_accepted (size_checks n (counts_of axes) (length vals) Regular) (lowest 5 not_rising 0 (take n axes)) e).1)
+  ends = ends_of f mode (take n axes) fit (all_sound NotRising not_rising 0 (take n axes) (then_accepted (size_checks n (counts_of axes) (length vals) None) (lowest NotRising not_rising 0 (take n axes)) e).1)
 
   pub held-once : All (λ (g : GridAxis). (given : Float) → hold g (hold g given) ≡ hold g given) (axes_in f mode n axes)
   held-once = holds_once (axes_in f mode n axes) ends
@@ -46,7 +46,7 @@ module _ (f : Format) (n : ℕ) (axes : List Axis) (vals : List Float) (mode : E
 
 -- where both answer a query, neither the setting nor the values have a say in its marks
 pub same_marks : (f : Format) (n : ℕ) (axes : List Axis) (vals vals' : List Float) (mode mode' : EdgeMode) (query : ℕ → Float)
-    → outcome_of (grid_of f n axes vals mode) query ≡ Accepted → outcome_of (grid_of f n axes vals' mode') query ≡ Accepted
+    → outcome_of (grid_of f n axes vals mode) query ≡ accepted → outcome_of (grid_of f n axes vals' mode') query ≡ accepted
     → mark_answer (grid_of f n axes vals mode) query ≡ mark_answer (grid_of f n axes vals' mode') query
 same_marks f n axes vals vals' mode mode' query e e' =
     marks_alike (grid_of f n axes vals mode) (grid_of f n axes vals' mode') query e e'

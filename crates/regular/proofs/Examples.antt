@@ -7,11 +7,10 @@ use lib.Dec.{T, lit<, lit≤}
 use lib.ListN.{get_or}
 use lib.Ieee.{Float, nan, fin, Format, binary32, binary64, add, mul, of_int, lt, eq, fits}
 use lib.Ieee.Scale.{finite}
-use Rattle.multicubic.specs.declared.Axis.{Axis}
+use Rattle.std.specs.Prelude.{Ok}
+use Rattle.multicubic.specs.Types.{Axis, accepted}
 use Rattle.multicubic.specs.declared.EdgeMode.{EdgeMode}
 use Rattle.multicubic.specs.declared.EdgeMode.TheVariants.{Cubic, Straight, Held}
-use Rattle.multicubic.specs.declared.Outcome.TheVariants.{Accepted}
-use Rattle.multicubic.specs.declared.Answer.TheVariants.{Value}
 use Rattle.multicubic.specs.Grid.{size_checks}
 use Rattle.grid.specs.Query.{value_answer}
 use Rattle.grid.specs.Nodes.{AtIndex, stored}
@@ -34,7 +33,7 @@ premises = (
   (record { power = negsuc 1; step_is = refl; step-most = lit≤ tt; step-least = lit≤ tt; below-zero = true; steps = 3; near = lit≤ tt; start_is = (refl, refl) }, tt),
 )
 
-taken : (f : Format) (mode : EdgeMode) → (grid_of f 2 axes vals mode).checked ≡ Accepted
+taken : (f : Format) (mode : EdgeMode) → (grid_of f 2 axes vals mode).checked ≡ accepted
 unfolding size_checks lt
 taken f mode = refl
 
@@ -48,7 +47,7 @@ at binary64 Cubic = (lit< tt, tt, (lit< tt, tt, tt))
 at binary64 Straight = (lit< tt, tt, (lit< tt, tt, tt))
 at binary64 Held = (lit< tt, tt, (lit< tt, tt, tt))
 
-pub met : (f : Format) (mode : EdgeMode) → (v : Float) × (value_answer f (grid_of f 2 axes vals mode) (λ a. get_or query a nan) ≡ Value v) × T (eq v (stored (grid_of f 2 axes vals mode) (2 ∷ 3 ∷ [])))
+pub met : (f : Format) (mode : EdgeMode) → (v : Float) × (value_answer f (grid_of f 2 axes vals mode) (λ a. get_or query a nan) ≡ Ok v) × T (eq v (stored (grid_of f 2 axes vals mode) (2 ∷ 3 ∷ [])))
 unfolding fits
 met binary32 mode = node binary32 2 axes premises (2 ∷ 3 ∷ []) (λ a. get_or query a nan) (all_fit binary32 query tt) vals mode (taken binary32 mode) (each finite vals tt) (each (fits binary32) vals tt) (at binary32 mode)
 met binary64 mode = node binary64 2 axes premises (2 ∷ 3 ∷ []) (λ a. get_or query a nan) (all_fit binary64 query tt) vals mode (taken binary64 mode) (each finite vals tt) (each (fits binary64) vals tt) (at binary64 mode)

@@ -5,11 +5,10 @@ use Prim.Native.Nat.{ℕ, ◌≤◌}
 use lib.Dec.{T}
 use lib.ListN.{length, take}
 use lib.Ieee.{Float, Format, eq, fits}
-use Rattle.multicubic.specs.declared.Axis.{Axis}
+use Rattle.std.specs.Prelude.{Ok}
+use Rattle.multicubic.specs.Types.{Axis, accepted}
 use Rattle.multicubic.specs.declared.EdgeMode.{EdgeMode}
 use Rattle.multicubic.specs.declared.EdgeMode.TheVariants.{Cubic, Held}
-use Rattle.multicubic.specs.declared.Outcome.TheVariants.{Accepted}
-use Rattle.multicubic.specs.declared.Answer.TheVariants.{Value}
 use Rattle.grid.specs.Query.{GridAxis, Grid, value_answer, place_answer}
 use Rattle.grid.specs.Nodes.{AtIndex, stored, FiniteValues, Fits}
 use Rattle.grid.proofs.AtNodes.{at_each, NodeCase, node-answer}
@@ -21,7 +20,7 @@ use Rattle.regular.proofs.Laws.{held_axes, node_laws}
 use Rattle.regular_query.proofs.Locating.{axes-long}
 
 module _ (f : Format) (n : ℕ) (axes : List Axis) (premises : AllPremises (take n axes)) (is : List ℕ) (query : ℕ → Float) (typed : (a : ℕ) → T (fits f (query a))) where
-  pub node-case : (vals : List Float) (mode : EdgeMode) → (grid_of f n axes vals mode).checked ≡ Accepted → FiniteValues vals → Fits f vals → AtIndex 0 (grid_of f n axes vals mode).axes is query → NodeCase f (grid_of f n axes vals mode) is query
+  pub node-case : (vals : List Float) (mode : EdgeMode) → (grid_of f n axes vals mode).checked ≡ accepted → FiniteValues vals → Fits f vals → AtIndex 0 (grid_of f n axes vals mode).axes is query → NodeCase f (grid_of f n axes vals mode) is query
   node-case vals mode accepted whole held at = record {
     sized = sized f n axes vals mode accepted;
     whole = whole;
@@ -30,8 +29,8 @@ module _ (f : Format) (n : ℕ) (axes : List Axis) (premises : AllPremises (take
   }
 
   -- clause 8.3, in every setting
-  pub node : (vals : List Float) (mode : EdgeMode) → (grid_of f n axes vals mode).checked ≡ Accepted → FiniteValues vals → Fits f vals → AtIndex 0 (grid_of f n axes vals mode).axes is query
-      → (v : Float) × (value_answer f (grid_of f n axes vals mode) query ≡ Value v) × T (eq v (stored (grid_of f n axes vals mode) is))
+  pub node : (vals : List Float) (mode : EdgeMode) → (grid_of f n axes vals mode).checked ≡ accepted → FiniteValues vals → Fits f vals → AtIndex 0 (grid_of f n axes vals mode).axes is query
+      → (v : Float) × (value_answer f (grid_of f n axes vals mode) query ≡ Ok v) × T (eq v (stored (grid_of f n axes vals mode) is))
   node vals mode accepted whole held at = node-answer f (grid_of f n axes vals mode) is query accepted (node-case vals mode accepted whole held at)
 
 -- held, a query is answered as its coordinates as used are in the cubic setting
@@ -46,7 +45,7 @@ module _ (n : ℕ) (axes : List Axis) (vals : List Float) (f : Format) (query us
   held_place = ap (λ (g : Grid). place_answer g query) (sym held-grid) ∙ place-as-used (grid_of f n axes vals Cubic) query used u
 
 -- two tables on the same axes, with the same setting
-pub alike : (f : Format) (n : ℕ) (axes : List Axis) (vals vals' : List Float) (mode : EdgeMode) → (grid_of f n axes vals mode).checked ≡ Accepted → (grid_of f n axes vals' mode).checked ≡ Accepted → Alike (grid_of f n axes vals mode) (grid_of f n axes vals' mode)
+pub alike : (f : Format) (n : ℕ) (axes : List Axis) (vals vals' : List Float) (mode : EdgeMode) → (grid_of f n axes vals mode).checked ≡ accepted → (grid_of f n axes vals' mode).checked ≡ accepted → Alike (grid_of f n axes vals mode) (grid_of f n axes vals' mode)
 alike f n axes vals vals' mode taken taken' = record { taken = taken; taken' = taken'; count = refl; axes = refl }
 
 -- as many axes as the axis count

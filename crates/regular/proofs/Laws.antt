@@ -10,10 +10,9 @@ use lib.ListN.{length, take}
 use lib.Ieee.{Float, Format, mul, of_int, fits}
 use lib.Ieee.Fits.{add-fits}
 use borrow.Author.Tests.{ltb-false}
-use Rattle.multicubic.specs.declared.Axis.{Axis}
+use Rattle.multicubic.specs.Types.{Axis, accepted}
 use Rattle.multicubic.specs.declared.EdgeMode.{EdgeMode}
 use Rattle.multicubic.specs.declared.EdgeMode.TheVariants.{Cubic, Held}
-use Rattle.multicubic.specs.declared.Outcome.TheVariants.{Accepted}
 use Rattle.multicubic.specs.Grid.{any_over}
 use Rattle.multicubic.proofs.Sizes.{or_false}
 use Rattle.regular_axis.specs.Nodes.{Premises}
@@ -63,7 +62,7 @@ pub held_axes : (f : Format) (axes : List Axis) → map held_axis (grid_axes f C
 held_axes f [] = refl
 held_axes f (a ∷ axes) = ap (λ (gs : List GridAxis). axis_in f Held a ∷ gs) (held_axes f axes)
 
-module _ (f : Format) (n : ℕ) (axes : List Axis) (vals : List Float) (mode : EdgeMode) (e : (grid_of f n axes vals mode).checked ≡ Accepted) (premises : AllPremises (take n axes)) where
+module _ (f : Format) (n : ℕ) (axes : List Axis) (vals : List Float) (mode : EdgeMode) (e : (grid_of f n axes vals mode).checked ≡ accepted) (premises : AllPremises (take n axes)) where
   within-taken : any_over (counts_of (take n axes)) ≡ false
   within-taken = subst (λ (cs : List ℕ). any_over cs ≡ false) (sym (counts-taken n axes)) (passed n axes (length vals) e).within
 

@@ -3,7 +3,7 @@ use mathlib.Core.List.{List}
 use Prim.Native.Nat.{ℕ}
 use lib.ListN.{take}
 use lib.Ieee.{Float, Format}
-use Rattle.multicubic.specs.declared.Axis.{Axis}
+use Rattle.multicubic.specs.Types.{Axis}
 use Rattle.multicubic.specs.declared.EdgeMode.{EdgeMode}
 use Rattle.regular_axis.proofs.Missing.{loc_missing}
 use Rattle.grid.specs.Nodes.{All}

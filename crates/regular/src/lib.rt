@@ -3,9 +3,9 @@
 
 ghost use Rattle.std.specs.Prelude.{◌≡◌, ◌≤◌, length, take};
 ghost use Rattle.std.specs.Float.{binary64};
+ghost use Rattle.multicubic.specs.declared.Check.TheVariants.{NotRising};
 ghost use Rattle.multicubic.specs.Grid.{lowest};
 ghost use Rattle.multicubic.specs.Answers.{Says, answer_outcome, value_in};
-ghost use Rattle.multicubic.specs.Same.{as_answer};
 ghost use Rattle.grid.specs.Query.{find, found_outcome, outcome_of, at, place_answer, value_answer, value_carried, gradient_answer, mark_answer};
 ghost use Rattle.grid.specs.Internal.{Located, gradient_to};
 ghost use Rattle.regular_query.specs.Grid.{not_rising, checks_of, axes_in, grid_of};
@@ -13,70 +13,53 @@ ghost use Rattle.regular_query.specs.Internal.{Taken, Ready};
 
 use grid::Quantity;
 use multicubic::{
-    Answer, AxesLength, Axis, EdgeMode, GradientAnswer, Loc, MarkedAnswer, MarkedGradient,
-    MarkedPlaces, Outcome, PlaceAnswer, answered, check_sizes, nowhere, outcome_of, place_outcome,
-    unplaced,
+    Answer, Axis, Check, EdgeMode, GradientAnswer, Marked, Outcome, PlaceAnswer, check_sizes,
+    nowhere, outcome_of, place_at, unplaced,
 };
 use reduction::strides;
 use regular_axis::hold;
 use regular_query::{answer_at, counts_of, marks_of, replaced_at};
 
 // Check 5: the lowest axis whose step is not above 0.
-fn first_not_rising(axis_count: usize, axes: [Axis; 4]) -> Outcome
+fn first_not_rising(axis_count: usize, axes: [Axis<f64>; 4]) -> Outcome
     requires { axis_count ≤ 4 }
-    ensures { result ≡ lowest 5 not_rising 0 (take axis_count axes) }
+    ensures { result ≡ lowest NotRising not_rising 0 (take axis_count axes) }
 {
-    let mut i: usize = 0;
-    while i < axis_count {
-        let step = axes[i].step;
-        if 0.0 < step {
-            i += 1;
-        } else {
-            return Outcome::Refused {
-                number: 5,
-                query: 0,
-                axis: i,
-            };
+    for i in 0..axis_count {
+        if !(0.0 < axes[i].step) {
+            return Err(Check::NotRising.at(0, i));
         }
     }
-    Outcome::Accepted
+    Ok(())
 }
 
 // Takes a grid or turns it away: checks 1 to 5.
-pub fn new(axis_count: usize, axes: [Axis; 4], vals: &[f64]) -> Outcome
+pub fn new(axis_count: usize, axes: [Axis<f64>; 4], vals: &[f64]) -> Outcome
     ensures value { result ≡ checks_of axis_count axes (length vals.now) }
     ensures says { Says result (checks_of axis_count axes (length vals.now)) }
 {
-    let sizes = check_sizes(axis_count, counts_of(axes), vals.len(), AxesLength::Regular);
-    match sizes {
-        Outcome::Refused { .. } => sizes,
-        Outcome::Accepted => first_not_rising(axis_count, axes),
-    }
+    check_sizes(axis_count, counts_of(axes), vals.len(), None)?;
+    first_not_rising(axis_count, axes)
 }
 
 // A query's place on every axis, or the refusal of the lowest axis that refuses it, 9 or 8.
-fn locate(axis_count: usize, axes: [Axis; 4], mode: EdgeMode, x: [f64; 4]) -> PlaceAnswer
+fn locate(axis_count: usize, axes: [Axis<f64>; 4], mode: EdgeMode, x: [f64; 4]) -> PlaceAnswer
     requires { Taken axis_count axes }
     ensures { Located 0 (axes_in binary64 mode axis_count axes) (at x) result }
 {
     let mut places = nowhere();
-    let mut i: usize = 0;
-    while i < axis_count {
+    for i in 0..axis_count {
         let given = x[i];
         let own = axes[i];
         let replaced = replaced_at(own, given, mode);
         let used = hold(own, given, replaced);
-        let loc = regular_axis::get_loc(own, used);
-        let place = match loc {
-            Loc::At(place) => place,
-            Loc::NotANumber => return unplaced(place_outcome(0, i, loc)),
-            Loc::Unplaceable => return unplaced(place_outcome(0, i, loc)),
-        };
-        places[i] = place;
-        i += 1;
+        match place_at(0, i, regular_axis::get_loc(own, used)) {
+            Ok(place) => places[i] = place,
+            Err(refusal) => return unplaced(Err(refusal)),
+        }
     }
     PlaceAnswer {
-        outcome: Outcome::Accepted,
+        outcome: Ok(()),
         places,
     }
 }
@@ -84,7 +67,7 @@ fn locate(axis_count: usize, axes: [Axis; 4], mode: EdgeMode, x: [f64; 4]) -> Pl
 // The place of a query on a grid: the grid's checks, then origin and class on every axis, or 9 or 8.
 fn find_place(
     axis_count: usize,
-    axes: [Axis; 4],
+    axes: [Axis<f64>; 4],
     vals: &[f64],
     mode: EdgeMode,
     x: [f64; 4],
@@ -93,59 +76,54 @@ fn find_place(
     ensures places_value { result.places ≡ place_answer (grid_of binary64 axis_count axes vals.now mode) (at x) }
     ensures says { Says result.outcome (outcome_of (grid_of binary64 axis_count axes vals.now mode) (at x)) }
 {
-    let checked = new(axis_count, axes, vals);
-    match checked {
-        Outcome::Refused { .. } => unplaced(checked),
-        Outcome::Accepted => locate(axis_count, axes, mode, x),
+    match new(axis_count, axes, vals) {
+        Err(refusal) => unplaced(Err(refusal)),
+        Ok(()) => locate(axis_count, axes, mode, x),
     }
 }
 
 // The value at a query, or the refusal.
 fn find_value(
     axis_count: usize,
-    axes: [Axis; 4],
+    axes: [Axis<f64>; 4],
     vals: &[f64],
     mode: EdgeMode,
     x: [f64; 4],
-) -> Answer
-    ensures result_value { as_answer result ≡ value_answer binary64 (grid_of binary64 axis_count axes vals.now mode) (at x) }
-    ensures says { Says (answer_outcome (as_answer result)) (outcome_of (grid_of binary64 axis_count axes vals.now mode) (at x)) }
-    ensures result_value_2 { value_in (as_answer result) ≡ value_carried binary64 (grid_of binary64 axis_count axes vals.now mode) (at x) }
+) -> Answer<f64>
+    ensures result_value { result ≡ value_answer binary64 (grid_of binary64 axis_count axes vals.now mode) (at x) }
+    ensures says { Says (answer_outcome result) (outcome_of (grid_of binary64 axis_count axes vals.now mode) (at x)) }
+    ensures result_value_2 { value_in result ≡ value_carried binary64 (grid_of binary64 axis_count axes vals.now mode) (at x) }
 {
-    let checked = new(axis_count, axes, vals);
-    match checked {
-        Outcome::Refused { .. } => answered(checked, 0.0),
-        Outcome::Accepted => answer_at(
-            axis_count,
-            axes,
-            vals,
-            mode,
-            strides(axis_count, counts_of(axes)),
-            &x,
-            1,
-            0,
-            Quantity::Value,
-        ),
-    }
+    new(axis_count, axes, vals)?;
+    answer_at(
+        axis_count,
+        axes,
+        vals,
+        mode,
+        strides(axis_count, counts_of(axes)),
+        &x,
+        1,
+        0,
+        Quantity::Value,
+    )
 }
 
 // The gradient on a grid that is taken, component by component.
 fn gradient_at(
     axis_count: usize,
-    axes: [Axis; 4],
+    axes: [Axis<f64>; 4],
     vals: &[f64],
     mode: EdgeMode,
     strides: [usize; 4],
     x: [f64; 4],
-) -> GradientAnswer
+) -> GradientAnswer<f64>
     requires { Ready axis_count axes (length vals.now) strides }
     ensures outcome_value { result.outcome ≡ found_outcome 0 (find 0 (axes_in binary64 mode axis_count axes) (at x)) }
     ensures gradient_value { result.gradient ≡ gradient_to binary64 (axes_in binary64 mode axis_count axes) vals.now
         (find 0 (axes_in binary64 mode axis_count axes) (at x)) }
 {
     let mut gradient = [0.0; 4];
-    let mut d: usize = 0;
-    while d < axis_count {
+    for d in 0..axis_count {
         let component = answer_at(
             axis_count,
             axes,
@@ -158,20 +136,17 @@ fn gradient_at(
             Quantity::Component(d),
         );
         match component {
-            Answer::Refused { .. } => {
+            Ok(v) => gradient[d] = v,
+            Err(refusal) => {
                 return GradientAnswer {
-                    outcome: outcome_of(component),
+                    outcome: Err(refusal),
                     gradient: [0.0; 4],
                 };
             }
-            Answer::Value(v) => {
-                gradient[d] = v;
-            }
         }
-        d += 1;
     }
     GradientAnswer {
-        outcome: Outcome::Accepted,
+        outcome: Ok(()),
         gradient,
     }
 }
@@ -179,22 +154,21 @@ fn gradient_at(
 // The gradient at a query, or the refusal.
 fn find_gradient(
     axis_count: usize,
-    axes: [Axis; 4],
+    axes: [Axis<f64>; 4],
     vals: &[f64],
     mode: EdgeMode,
     x: [f64; 4],
-) -> GradientAnswer
+) -> GradientAnswer<f64>
     ensures outcome_value { result.outcome ≡ outcome_of (grid_of binary64 axis_count axes vals.now mode) (at x) }
     ensures gradient_value { result.gradient ≡ gradient_answer binary64 (grid_of binary64 axis_count axes vals.now mode) (at x) }
     ensures says { Says result.outcome (outcome_of (grid_of binary64 axis_count axes vals.now mode) (at x)) }
 {
-    let checked = new(axis_count, axes, vals);
-    match checked {
-        Outcome::Refused { .. } => GradientAnswer {
-            outcome: checked,
+    match new(axis_count, axes, vals) {
+        Err(refusal) => GradientAnswer {
+            outcome: Err(refusal),
             gradient: [0.0; 4],
         },
-        Outcome::Accepted => gradient_at(
+        Ok(()) => gradient_at(
             axis_count,
             axes,
             vals,
@@ -208,55 +182,59 @@ fn find_gradient(
 // The place of a query: origin, class and marks on every axis, or the refusal.
 pub fn get_loc(
     axis_count: usize,
-    axes: [Axis; 4],
+    axes: [Axis<f64>; 4],
     vals: &[f64],
     mode: EdgeMode,
     x: [f64; 4],
-) -> MarkedPlaces
+) -> Marked<PlaceAnswer>
     ensures outcome_value { result.answer.outcome ≡ outcome_of (grid_of binary64 axis_count axes vals.now mode) (at x) }
     ensures places_value { result.answer.places ≡ place_answer (grid_of binary64 axis_count axes vals.now mode) (at x) }
     ensures marks_value { result.marks ≡ mark_answer (grid_of binary64 axis_count axes vals.now mode) (at x) }
     ensures says { Says result.answer.outcome (outcome_of (grid_of binary64 axis_count axes vals.now mode) (at x)) }
 {
-    let answer = find_place(axis_count, axes, vals, mode, x);
-    let outcome = answer.outcome;
-    let marks = marks_of(outcome, axis_count, axes, x);
-    MarkedPlaces { answer, marks }
+    let place = find_place(axis_count, axes, vals, mode, x);
+    let marks = marks_of(place.outcome, axis_count, axes, x);
+    Marked {
+        answer: place,
+        marks,
+    }
 }
 
 // The value at a query, or the refusal. Of a value that is a NaN the contract says that it is one, and leaves its payload open.
 pub fn interp_one(
     axis_count: usize,
-    axes: [Axis; 4],
+    axes: [Axis<f64>; 4],
     vals: &[f64],
     mode: EdgeMode,
     x: [f64; 4],
-) -> MarkedAnswer
-    ensures answer_value { as_answer result.answer ≡ value_answer binary64 (grid_of binary64 axis_count axes vals.now mode) (at x) }
+) -> Marked<Answer<f64>>
+    ensures answer_value { result.answer ≡ value_answer binary64 (grid_of binary64 axis_count axes vals.now mode) (at x) }
     ensures marks_value { result.marks ≡ mark_answer (grid_of binary64 axis_count axes vals.now mode) (at x) }
-    ensures says { Says (answer_outcome (as_answer result.answer)) (outcome_of (grid_of binary64 axis_count axes vals.now mode) (at x)) }
-    ensures answer_value_2 { value_in (as_answer result.answer) ≡ value_carried binary64 (grid_of binary64 axis_count axes vals.now mode) (at x) }
+    ensures says { Says (answer_outcome result.answer) (outcome_of (grid_of binary64 axis_count axes vals.now mode) (at x)) }
+    ensures answer_value_2 { value_in result.answer ≡ value_carried binary64 (grid_of binary64 axis_count axes vals.now mode) (at x) }
 {
     let answer = find_value(axis_count, axes, vals, mode, x);
     let marks = marks_of(outcome_of(answer), axis_count, axes, x);
-    MarkedAnswer { answer, marks }
+    Marked { answer, marks }
 }
 
 // The gradient at a query, or the refusal. Of a component that is a NaN the contract says that it is one, and leaves its payload open.
 pub fn interp_one_grad(
     axis_count: usize,
-    axes: [Axis; 4],
+    axes: [Axis<f64>; 4],
     vals: &[f64],
     mode: EdgeMode,
     x: [f64; 4],
-) -> MarkedGradient
+) -> Marked<GradientAnswer<f64>>
     ensures outcome_value { result.answer.outcome ≡ outcome_of (grid_of binary64 axis_count axes vals.now mode) (at x) }
     ensures gradient_value { result.answer.gradient ≡ gradient_answer binary64 (grid_of binary64 axis_count axes vals.now mode) (at x) }
     ensures marks_value { result.marks ≡ mark_answer (grid_of binary64 axis_count axes vals.now mode) (at x) }
     ensures says { Says result.answer.outcome (outcome_of (grid_of binary64 axis_count axes vals.now mode) (at x)) }
 {
-    let answer = find_gradient(axis_count, axes, vals, mode, x);
-    let outcome = answer.outcome;
-    let marks = marks_of(outcome, axis_count, axes, x);
-    MarkedGradient { answer, marks }
+    let gradient = find_gradient(axis_count, axes, vals, mode, x);
+    let marks = marks_of(gradient.outcome, axis_count, axes, x);
+    Marked {
+        answer: gradient,
+        marks,
+    }
 }

@@ -11,7 +11,7 @@ use Rattle.ieee.proofs.Multiple.{Is, diff, is_zero, is_pos, is_neg}
 use Rattle.ieee.proofs.Nan.{eq_number}
 use Rattle.multicubic.specs.declared.Saturation.{Saturation}
 use Rattle.multicubic.specs.declared.Saturation.TheVariants.{None, InsideLow, InsideHigh, OutsideHigh}
-use Rattle.multicubic.specs.declared.Loc.TheVariants.{At}
+use Rattle.std.specs.Prelude.{Ok}
 use Rattle.multicubic.specs.Place.{place_of, AxisOutcome, outcome_at}
 use Rattle.multicubic.proofs.Nodes.{OneAt, AtNode}
 use Rattle.multicubic.proofs.Numbers.{of_number}
@@ -69,7 +69,7 @@ module _ (f : Format) (straight : Bool) (start step : Float) (P : Premises start
         is = ap (outcome_at (weights_at f start step straight x) (derivatives_at f start step straight x))
             (of_number x _ (eq_number x (node f start step i) at)
             ∙ loc_whole n i (quotient f start step x) (omega arith) (quotient_is f start step P i x (omega arith) same)
-            ∙ ap At place);
+            ∙ ap Ok place);
         place_is = sym place;
         low = omega arith;
         row = rw (← j-is, q) r;

@@ -9,8 +9,9 @@ use lib.Ieee.Fits.{down_pos}
 use lib.Ieee.Scale.{finite}
 use Rattle.ieee.proofs.Order.{le_trans, lt_not_le, le_not_lt, lt_or_le, le_or_lt}
 use Rattle.ieee.proofs.Multiple.{Is, cut, sign_pos}
-use Rattle.multicubic.specs.declared.Loc.{Loc}
-use Rattle.multicubic.specs.declared.Loc.TheVariants.{At, Unplaceable}
+use Rattle.multicubic.specs.Types.{Loc}
+use Rattle.multicubic.specs.declared.LocError.TheVariants.{Unplaceable}
+use Rattle.std.specs.Prelude.{Err, Ok}
 use Rattle.multicubic.specs.Place.{origin_of, class_of, place_of}
 use Rattle.regular_axis.specs.Place.{floor_of, refused8}
 
@@ -76,7 +77,7 @@ floor_largest (fin true m e) t = go ((w + (d - 1)) / d) (up-low w d D) (cut_low 
 
 -- ---- the place, by the quotient; it is refused from 2^63 on and below -2^63
 abbrev pub loc_at : ℕ → Float → Loc
-loc_at n q = cond (refused8 q) Unplaceable (At (place_of n (floor_of q -ℤ pos 1)))
+loc_at n q = cond (refused8 q) (Err Unplaceable) (Ok (place_of n (floor_of q -ℤ pos 1)))
 
 abbrev pub none : Float
 none = fin false 0 (pos 0)
@@ -87,19 +88,19 @@ low63 = fin true 1 (pos 63)
 abbrev pub high63 : Float
 high63 = fin false 1 (pos 63)
 
-pub loc_high : (n : ℕ) (q : Float) → lt q high63 ≡ false → loc_at n q ≡ Unplaceable
+pub loc_high : (n : ℕ) (q : Float) → lt q high63 ≡ false → loc_at n q ≡ (Err Unplaceable)
 unfolding refused8
 loc_high n nan h = refl
 loc_high n (inf s) h = refl
 loc_high n (fin s m e) h = rw (lt_or_le (fin s m e) high63 tt tt h)
 
-pub loc_low : (n : ℕ) (q : Float) → le low63 q ≡ false → loc_at n q ≡ Unplaceable
+pub loc_low : (n : ℕ) (q : Float) → le low63 q ≡ false → loc_at n q ≡ (Err Unplaceable)
 unfolding refused8
 loc_low n nan h = refl
 loc_low n (inf s) h = refl
 loc_low n (fin s m e) h = rw (le_or_lt low63 (fin s m e) tt tt h, or-true)
 
-kept : (n : ℕ) (q : Float) → T (finite q) → lt q high63 ≡ true → lt q low63 ≡ false → loc_at n q ≡ At (place_of n (floor_of q -ℤ pos 1))
+kept : (n : ℕ) (q : Float) → T (finite q) → lt q high63 ≡ true → lt q low63 ≡ false → loc_at n q ≡ Ok (place_of n (floor_of q -ℤ pos 1))
 unfolding refused8
 kept n q t h l = rw (is_true (finite q) t, lt_not_le q high63 h, l)
 
@@ -107,14 +108,14 @@ no : {A : Type 0} → false ≡ true → A
 no e = absurd (true≢false (sym e))
 
 -- below zero the floor is negative
-pub loc_negative : (n : ℕ) (q : Float) → le none q ≡ false → le low63 q ≡ true → loc_at n q ≡ At (place_of n (pos 0 -ℤ pos 2))
+pub loc_negative : (n : ℕ) (q : Float) → le none q ≡ false → le low63 q ≡ true → loc_at n q ≡ Ok (place_of n (pos 0 -ℤ pos 2))
 unfolding floor_of origin_of class_of le lt eq
 loc_negative n nan z l = no l
 loc_negative n (inf true) z l = no l
 loc_negative n (inf false) z l = absurd (true≢false z)
 loc_negative n (fin false m e) z l = absurd (omega (arith, ltb-true (m * up e * 1) (0 * 1 * down e) (le_or_lt none (fin false m e) tt tt z), zero-mul (down e)))
 loc_negative n (fin true m e) z l =
-    kept n (fin true m e) tt (lt-ltb 0 (w * 1 + 1 * 2 ^ 63 * d) (omega (arith, W))) (le_not_lt low63 (fin true m e) l) ∙ ap At (go ((w + (d - 1)) / d) (up-low w d (down_pos e)))
+    kept n (fin true m e) tt (lt-ltb 0 (w * 1 + 1 * 2 ^ 63 * d) (omega (arith, W))) (le_not_lt low63 (fin true m e) l) ∙ ap Ok (go ((w + (d - 1)) / d) (up-low w d (down_pos e)))
   where
     w : ℕ
     w = m * up e
@@ -174,16 +175,16 @@ low-none : le low63 none ≡ true
 unfolding le lt eq
 low-none = refl
 
-pub loc_counted : (n : ℕ) (q : Float) → le none q ≡ true → lt q high63 ≡ true → loc_at n q ≡ At (place_of n (pos (to_unsigned 64 q + 1) -ℤ pos 2))
+pub loc_counted : (n : ℕ) (q : Float) → le none q ≡ true → lt q high63 ≡ true → loc_at n q ≡ Ok (place_of n (pos (to_unsigned 64 q + 1) -ℤ pos 2))
 unfolding lt
 loc_counted n q z h =
     let c = counted q z h in
     kept n q c.is_finite h (le_not_lt low63 q (le_trans low63 none q low-none z))
-    ∙ ap (λ (k : ℤ). At (place_of n (k -ℤ pos 1))) c.floor-is
-    ∙ ap (λ (k : ℤ). At (place_of n k)) (less_one (to_unsigned 64 q))
+    ∙ ap (λ (k : ℤ). Ok (place_of n (k -ℤ pos 1))) c.floor-is
+    ∙ ap (λ (k : ℤ). Ok (place_of n k)) (less_one (to_unsigned 64 q))
 
 -- ---- at a whole number
-pub loc_whole : (n i : ℕ) (q : Float) → i < 2 ^ 63 → Is (pos 0) (pos i) q → loc_at n q ≡ At (place_of n (pos i -ℤ pos 1))
+pub loc_whole : (n i : ℕ) (q : Float) → i < 2 ^ 63 → Is (pos 0) (pos i) q → loc_at n q ≡ Ok (place_of n (pos i -ℤ pos 1))
 unfolding floor_of lt
 loc_whole n i nan s h = absurd h.is
 loc_whole n i (inf t) s h = absurd h.is
@@ -192,12 +193,12 @@ loc_whole n i (fin false m e) s h =
     let d = down e in
     let c = (cut false m e i h).0 in
     let b : w < 2 ^ 63 * d = (div-lt_iff_lt-mul (down_pos e)).0 (omega arith) in
-    kept n (fin false m e) tt (lt-ltb (w * 1) (1 * 2 ^ 63 * d) (omega arith)) refl ∙ ap (λ (k : ℕ). At (place_of n (pos k -ℤ pos 1))) c
+    kept n (fin false m e) tt (lt-ltb (w * 1) (1 * 2 ^ 63 * d) (omega arith)) refl ∙ ap (λ (k : ℕ). Ok (place_of n (pos k -ℤ pos 1))) c
 loc_whole n zero (fin true m e) s h =
     let w = m * up e in
     let d = down e in
     let c = cut true m e 0 h in
     let W : w ≡ 0 = omega (arith, div-add-mod' w d, ap (λ (k : ℕ). k * d) c.0, zero-mul d, c.1) in
     kept n (fin true m e) tt (lt-ltb 0 (w * 1 + 1 * 2 ^ 63 * d) (omega (arith, down_pos e))) (le-ltb (1 * 2 ^ 63 * d) (w * 1) (omega arith))
-    ∙ ap (λ (k : ℕ). At (place_of n (neg_ℤ (pos k) -ℤ pos 1))) (up_none w d (down_pos e) W)
+    ∙ ap (λ (k : ℕ). Ok (place_of n (neg_ℤ (pos k) -ℤ pos 1))) (up_none w d (down_pos e) W)
 loc_whole n (suc i) (fin true m e) s h = absurd (true≢false (h.is.0 ∙ sign_pos h.sign h.size i h.z-is))

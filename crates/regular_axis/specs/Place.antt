@@ -4,8 +4,9 @@ use Rattle.std.specs.Float.{nan, inf, fin, Format}
 use Rattle.std.specs.Float.Ieee.{up, down, sub, div, lt, le}
 use Rattle.std.specs.Float.Ieee.Scale.{finite}
 use Rattle.multicubic.specs.declared.Place.{Place}
-use Rattle.multicubic.specs.declared.Loc.{Loc}
-use Rattle.multicubic.specs.declared.Loc.TheVariants.{At, Unplaceable}
+use Rattle.multicubic.specs.Types.{Loc, refusal}
+use Rattle.multicubic.specs.declared.LocError.TheVariants.{Unplaceable}
+use Rattle.std.specs.Prelude.{Err, Ok}
 use Rattle.multicubic.specs.Place.{place_of, if_number}
 
 -- (query minus start) / step, two rounded operations
@@ -28,7 +29,7 @@ refused8 q = not (finite q) || le (fin false 1 (pos 63)) q || lt q (fin true 1 (
 abbrev pub loc_of : Format → Float → Float → ℕ → Float → Loc
 loc_of f start step n x =
     let q = quotient f start step x in
-    if_number x (cond (refused8 q) Unplaceable (At (place_of n (floor_of q -ℤ pos 1))))
+    if_number x (cond (refused8 q) (Err Unplaceable) (Ok (place_of n (floor_of q -ℤ pos 1))))
 
 -- the same told apart: the number, and the place where there is one
 abbrev pub loc_number : Format → Float → Float → Float → ℕ

@@ -11,7 +11,7 @@ ghost use Rattle.regular_query.specs.Grid.{axes_in, grid_of};
 ghost use Rattle.regular_query.specs.Internal.{Ready};
 
 use grid::{Quantity, check_gradients, check_values};
-use multicubic::{Answer, Axis, EdgeMode, Outcome, outcome_of};
+use multicubic::{Axis, EdgeMode, Outcome};
 use reduction::strides;
 use regular::new;
 use regular_query::{answer_at, counts_of};
@@ -19,7 +19,7 @@ use regular_query::{answer_at, counts_of};
 // What is asked of the queries, in order, up to the first that is refused.
 fn fill(
     axis_count: usize,
-    axes: [Axis; 4],
+    axes: [Axis<f64>; 4],
     vals: &[f64],
     mode: EdgeMode,
     strides: [usize; 4],
@@ -38,29 +38,19 @@ fn fill(
         (length out.old) out.old }
 {
     let count = out.len();
-    let mut i: usize = 0;
-    while i < count {
-        let answer = answer_at(
+    for i in 0..count {
+        out[i] = answer_at(
             axis_count, axes, vals, mode, strides, queries, count, i, quantity,
-        );
-        match answer {
-            Answer::Refused { .. } => {
-                return outcome_of(answer);
-            }
-            Answer::Value(v) => {
-                out[i] = v;
-            }
-        }
-        i += 1;
+        )?;
     }
-    Outcome::Accepted
+    Ok(())
 }
 
 // The value of every query: entry i of `out` is query i's. An entry that keeps its contents is not stored to, so a NaN there keeps its
 // payload too, of which the contract, with one NaN, says nothing. Operations round to nearest, with subnormals, and none is fused.
 pub fn interp(
     axis_count: usize,
-    axes: [Axis; 4],
+    axes: [Axis<f64>; 4],
     vals: &[f64],
     mode: EdgeMode,
     queries: &[f64],
@@ -71,31 +61,29 @@ pub fn interp(
         interp_buffer binary64 (grid_of binary64 axis_count axes vals.now mode) queries.now out.old }
     ensures says { Says result (interp_outcome binary64 (grid_of binary64 axis_count axes vals.now mode) queries.now out.old) }
 {
-    let checked = check_values(
+    check_values(
         new(axis_count, axes, vals),
         axis_count,
         queries.len(),
         out.len(),
-    );
-    match checked {
-        Outcome::Refused { .. } => checked,
-        Outcome::Accepted => fill(
-            axis_count,
-            axes,
-            vals,
-            mode,
-            strides(axis_count, counts_of(axes)),
-            queries,
-            Quantity::Value,
-            out,
-        ),
-    }
+    )?;
+    fill(
+        axis_count,
+        axes,
+        vals,
+        mode,
+        strides(axis_count, counts_of(axes)),
+        queries,
+        Quantity::Value,
+        out,
+    )
 }
 
-// Every column by itself: column d starts at d times the count. Each meets the same outcome.
+// Every column by itself: column d starts at d times the count. Each meets the same outcome, so none but the last hands it on: all are filled up to
+// the query that is refused.
 fn fill_columns(
     axis_count: usize,
-    axes: [Axis; 4],
+    axes: [Axis<f64>; 4],
     vals: &[f64],
     mode: EdgeMode,
     strides: [usize; 4],
@@ -113,9 +101,8 @@ fn fill_columns(
         (outcome_from (found_at (axes_in binary64 mode axis_count axes) count queries.now) 0 count) count)
         out.old out.new }
 {
-    let mut outcome = Outcome::Accepted;
-    let mut d: usize = 0;
-    while d < axis_count {
+    let mut outcome = Ok(());
+    for d in 0..axis_count {
         let at = d * count;
         let end = at + count;
         outcome = fill(
@@ -128,7 +115,6 @@ fn fill_columns(
             Quantity::Component(d),
             &mut out[at..end],
         );
-        d += 1;
     }
     outcome
 }
@@ -136,7 +122,7 @@ fn fill_columns(
 // The gradient of every query: its component d is at the query's place in column d of `out`. Untouched entries and rounding are as in `interp`.
 pub fn interp_grad(
     axis_count: usize,
-    axes: [Axis; 4],
+    axes: [Axis<f64>; 4],
     vals: &[f64],
     mode: EdgeMode,
     queries: &[f64],
@@ -147,23 +133,20 @@ pub fn interp_grad(
         grad_buffer binary64 (grid_of binary64 axis_count axes vals.now mode) queries.now out.old }
     ensures says { Says result (grad_outcome binary64 (grid_of binary64 axis_count axes vals.now mode) queries.now out.old) }
 {
-    let checked = check_gradients(
+    check_gradients(
         new(axis_count, axes, vals),
         axis_count,
         queries.len(),
         out.len(),
-    );
-    match checked {
-        Outcome::Refused { .. } => checked,
-        Outcome::Accepted => fill_columns(
-            axis_count,
-            axes,
-            vals,
-            mode,
-            strides(axis_count, counts_of(axes)),
-            queries,
-            out.len() / axis_count,
-            out,
-        ),
-    }
+    )?;
+    fill_columns(
+        axis_count,
+        axes,
+        vals,
+        mode,
+        strides(axis_count, counts_of(axes)),
+        queries,
+        out.len() / axis_count,
+        out,
+    )
 }

@@ -9,12 +9,10 @@ ghost use Rattle.grid.specs.Query.{counts_of as grid_counts};
 ghost use Rattle.grid.specs.Batch.{found_at, outcome_from, run_from, interp_outcome, interp_buffer, grad_outcome, grad_buffer};
 ghost use Rattle.grid.specs.Internal.{Asked, put_quantity, answered_before, component_in, FilledColumns};
 ghost use Rattle.regular_query.specs.Grid.{axes_in, grid_of};
-ghost use Rattle.regular_query_f32.specs.Internal.{Ready};
-ghost use Rattle.multicubic_f32.specs.Same.{as_axes};
+ghost use Rattle.regular_query.specs.Internal.{Ready};
 
 use grid::{Quantity, check_gradients, check_values};
-use multicubic::{EdgeMode, Outcome};
-use multicubic_f32::{AnswerF32, AxisF32, outcome_of};
+use multicubic::{Axis, EdgeMode, Outcome};
 use reduction::strides;
 use regular_f32::new;
 use regular_query_f32::{answer_at, counts_of};
@@ -22,7 +20,7 @@ use regular_query_f32::{answer_at, counts_of};
 // What is asked of the queries, in order, up to the first that is refused.
 fn fill(
     axis_count: usize,
-    axes: [AxisF32; 4],
+    axes: [Axis<f32>; 4],
     vals: &[f32],
     mode: EdgeMode,
     strides: [usize; 4],
@@ -33,72 +31,60 @@ fn fill(
     requires ready { Ready axis_count axes (length vals.now) strides }
     requires queries_len { length queries.now ≡ axis_count * length out.old }
     requires asked { Asked axis_count quantity }
-    ensures value { result ≡ outcome_from (found_at (axes_in binary32 mode axis_count (as_axes axes)) (length out.old) queries.now) 0
+    ensures value { result ≡ outcome_from (found_at (axes_in binary32 mode axis_count axes) (length out.old) queries.now) 0
         (length out.old) }
     ensures out_after { out.new ≡ run_from
-        (found_at (axes_in binary32 mode axis_count (as_axes axes)) (length out.old) queries.now)
-        (put_quantity binary32 (grid_counts (axes_in binary32 mode axis_count (as_axes axes))) vals.now quantity) 0
+        (found_at (axes_in binary32 mode axis_count axes) (length out.old) queries.now)
+        (put_quantity binary32 (grid_counts (axes_in binary32 mode axis_count axes)) vals.now quantity) 0
         (length out.old) out.old }
 {
     let count = out.len();
-    let mut i: usize = 0;
-    while i < count {
-        let answer = answer_at(
+    for i in 0..count {
+        out[i] = answer_at(
             axis_count, axes, vals, mode, strides, queries, count, i, quantity,
-        );
-        match answer {
-            AnswerF32::Refused { .. } => {
-                return outcome_of(answer);
-            }
-            AnswerF32::Value(v) => {
-                out[i] = v;
-            }
-        }
-        i += 1;
+        )?;
     }
-    Outcome::Accepted
+    Ok(())
 }
 
 // The value of every query: entry i of `out` is query i's. An entry that keeps its contents is not stored to, so a NaN there keeps its
 // payload too, of which the contract, with one NaN, says nothing. Operations round to nearest, with subnormals, and none is fused.
 pub fn interp(
     axis_count: usize,
-    axes: [AxisF32; 4],
+    axes: [Axis<f32>; 4],
     vals: &[f32],
     mode: EdgeMode,
     queries: &[f32],
     out: &mut [f32],
 ) -> Outcome
-    ensures value { result ≡ interp_outcome binary32 (grid_of binary32 axis_count (as_axes axes) vals.now mode) queries.now out.old }
+    ensures value { result ≡ interp_outcome binary32 (grid_of binary32 axis_count axes vals.now mode) queries.now out.old }
     ensures out_after { out.new ≡
-        interp_buffer binary32 (grid_of binary32 axis_count (as_axes axes) vals.now mode) queries.now out.old }
-    ensures says { Says result (interp_outcome binary32 (grid_of binary32 axis_count (as_axes axes) vals.now mode) queries.now out.old) }
+        interp_buffer binary32 (grid_of binary32 axis_count axes vals.now mode) queries.now out.old }
+    ensures says { Says result (interp_outcome binary32 (grid_of binary32 axis_count axes vals.now mode) queries.now out.old) }
 {
-    let checked = check_values(
+    check_values(
         new(axis_count, axes, vals),
         axis_count,
         queries.len(),
         out.len(),
-    );
-    match checked {
-        Outcome::Refused { .. } => checked,
-        Outcome::Accepted => fill(
-            axis_count,
-            axes,
-            vals,
-            mode,
-            strides(axis_count, counts_of(axes)),
-            queries,
-            Quantity::Value,
-            out,
-        ),
-    }
+    )?;
+    fill(
+        axis_count,
+        axes,
+        vals,
+        mode,
+        strides(axis_count, counts_of(axes)),
+        queries,
+        Quantity::Value,
+        out,
+    )
 }
 
-// Every column by itself: column d starts at d times the count. Each meets the same outcome.
+// Every column by itself: column d starts at d times the count. Each meets the same outcome, so none but the last hands it on: all are filled up to
+// the query that is refused.
 fn fill_columns(
     axis_count: usize,
-    axes: [AxisF32; 4],
+    axes: [Axis<f32>; 4],
     vals: &[f32],
     mode: EdgeMode,
     strides: [usize; 4],
@@ -108,17 +94,16 @@ fn fill_columns(
 ) -> Outcome
     requires ready { Ready axis_count axes (length vals.now) strides }
     requires queries_len { (length queries.now ≡ axis_count * count) × (length out.old ≡ axis_count * count) }
-    ensures value { result ≡ outcome_from (found_at (axes_in binary32 mode axis_count (as_axes axes)) count queries.now) 0 count }
+    ensures value { result ≡ outcome_from (found_at (axes_in binary32 mode axis_count axes) count queries.now) 0 count }
     ensures filled_columns { FilledColumns
-        (component_in binary32 (axes_in binary32 mode axis_count (as_axes axes)) vals.now count queries.now)
+        (component_in binary32 (axes_in binary32 mode axis_count axes) vals.now count queries.now)
         axis_count count
         (answered_before
-        (outcome_from (found_at (axes_in binary32 mode axis_count (as_axes axes)) count queries.now) 0 count) count)
+        (outcome_from (found_at (axes_in binary32 mode axis_count axes) count queries.now) 0 count) count)
         out.old out.new }
 {
-    let mut outcome = Outcome::Accepted;
-    let mut d: usize = 0;
-    while d < axis_count {
+    let mut outcome = Ok(());
+    for d in 0..axis_count {
         let at = d * count;
         let end = at + count;
         outcome = fill(
@@ -131,7 +116,6 @@ fn fill_columns(
             Quantity::Component(d),
             &mut out[at..end],
         );
-        d += 1;
     }
     outcome
 }
@@ -139,34 +123,31 @@ fn fill_columns(
 // The gradient of every query: its component d is at the query's place in column d of `out`. Untouched entries and rounding are as in `interp`.
 pub fn interp_grad(
     axis_count: usize,
-    axes: [AxisF32; 4],
+    axes: [Axis<f32>; 4],
     vals: &[f32],
     mode: EdgeMode,
     queries: &[f32],
     out: &mut [f32],
 ) -> Outcome
-    ensures value { result ≡ grad_outcome binary32 (grid_of binary32 axis_count (as_axes axes) vals.now mode) queries.now out.old }
+    ensures value { result ≡ grad_outcome binary32 (grid_of binary32 axis_count axes vals.now mode) queries.now out.old }
     ensures out_after { out.new ≡
-        grad_buffer binary32 (grid_of binary32 axis_count (as_axes axes) vals.now mode) queries.now out.old }
-    ensures says { Says result (grad_outcome binary32 (grid_of binary32 axis_count (as_axes axes) vals.now mode) queries.now out.old) }
+        grad_buffer binary32 (grid_of binary32 axis_count axes vals.now mode) queries.now out.old }
+    ensures says { Says result (grad_outcome binary32 (grid_of binary32 axis_count axes vals.now mode) queries.now out.old) }
 {
-    let checked = check_gradients(
+    check_gradients(
         new(axis_count, axes, vals),
         axis_count,
         queries.len(),
         out.len(),
-    );
-    match checked {
-        Outcome::Refused { .. } => checked,
-        Outcome::Accepted => fill_columns(
-            axis_count,
-            axes,
-            vals,
-            mode,
-            strides(axis_count, counts_of(axes)),
-            queries,
-            out.len() / axis_count,
-            out,
-        ),
-    }
+    )?;
+    fill_columns(
+        axis_count,
+        axes,
+        vals,
+        mode,
+        strides(axis_count, counts_of(axes)),
+        queries,
+        out.len() / axis_count,
+        out,
+    )
 }

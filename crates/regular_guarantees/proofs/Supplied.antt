@@ -6,7 +6,7 @@ use Prim.Native.Nat.{ℕ, ◌≤◌}
 use native.Mathlib.Omega.{arith}
 use lib.ListN.{length, take}
 use lib.Ieee.{Float, Format}
-use Rattle.multicubic.specs.declared.Axis.{Axis}
+use Rattle.multicubic.specs.Types.{Axis}
 use Rattle.multicubic.specs.declared.EdgeMode.{EdgeMode}
 use Rattle.multicubic.specs.declared.EdgeMode.TheVariants.{Held}
 use Rattle.grid.specs.Query.{at, mark_answer}

@@ -3,7 +3,6 @@
 
 ghost use Rattle.std.specs.Prelude.{◌≡◌, take};
 ghost use Rattle.std.specs.Float.{binary64};
-ghost use Rattle.multicubic.specs.Same.{as_answer};
 ghost use Rattle.multicubic.specs.declared.EdgeMode.TheVariants.{Held};
 ghost use Rattle.grid.specs.Query.{at, value_answer, mark_answer};
 ghost use Rattle.grid.specs.Batch.{interp_outcome, interp_buffer};
@@ -12,27 +11,27 @@ ghost use Rattle.guarantees.specs.Marked.{UnmarkedAtNode};
 ghost use Rattle.guarantees.specs.Statements.{AnswersOf, BuffersOf, HeldEdge, HeldInBatch, OwedAlone, OwedInBatch};
 
 use guarantees::{TwoOutcomes, TwoTables};
-use multicubic::{Axis, EdgeMode, MarkedAnswer, Outcome};
+use multicubic::{Answer, Axis, EdgeMode, Marked, Outcome};
 
 // A query asked alone: `interp_one` and `interp_one_grad` on both tables.
 pub fn alone(
     axis_count: usize,
-    axes: [Axis; 4],
+    axes: [Axis<f64>; 4],
     x: [f64; 4],
     vals: &[f64],
     mode: EdgeMode,
     other_vals: &[f64],
     other_mode: EdgeMode,
-) -> TwoTables
+) -> TwoTables<f64>
     ensures owed_alone { OwedAlone (AllPremises (take axis_count axes))
         (grid_of binary64 axis_count axes vals.now mode)
         (grid_of binary64 axis_count axes other_vals.now other_mode)
-        (at x) (as_answer result.value.answer) (as_answer result.other_value.answer)
+        (at x) result.value.answer result.other_value.answer
         result.gradient.answer.outcome result.other_gradient.answer.outcome result.gradient.answer.gradient result.other_gradient.answer.gradient }
     ensures answers_of { AnswersOf binary64 (grid_of binary64 axis_count axes vals.now mode) (at x)
-        (as_answer result.value.answer) result.gradient.answer.outcome result.gradient.answer.gradient }
+        result.value.answer result.gradient.answer.outcome result.gradient.answer.gradient }
     ensures answers_of_2 { AnswersOf binary64 (grid_of binary64 axis_count axes other_vals.now other_mode) (at x)
-        (as_answer result.other_value.answer) result.other_gradient.answer.outcome result.other_gradient.answer.gradient }
+        result.other_value.answer result.other_gradient.answer.outcome result.other_gradient.answer.gradient }
 {
     let value = regular::interp_one(axis_count, axes, vals, mode, x);
     let gradient = regular::interp_one_grad(axis_count, axes, vals, mode, x);
@@ -46,10 +45,10 @@ pub fn alone(
     }
 }
 
-// A batch: `interp` and `interp_grad` on both tables.
+// A batch: `interp` and `interp_grad` on both tables. Of the gradients the buffers are promised, and their outcomes are dropped.
 pub fn in_batch(
     axis_count: usize,
-    axes: [Axis; 4],
+    axes: [Axis<f64>; 4],
     queries: &[f64],
     vals: &[f64],
     mode: EdgeMode,
@@ -75,11 +74,11 @@ pub fn in_batch(
         queries.now other_out.old other_out.new other_grad.old other_grad.new }
 {
     let outcome = regular_batch::interp(axis_count, axes, vals, mode, queries, out);
-    regular_batch::interp_grad(axis_count, axes, vals, mode, queries, grad);
+    let _ = regular_batch::interp_grad(axis_count, axes, vals, mode, queries, grad);
     let other_outcome = regular_batch::interp(
         axis_count, axes, other_vals, other_mode, queries, other_out,
     );
-    regular_batch::interp_grad(
+    let _ = regular_batch::interp_grad(
         axis_count, axes, other_vals, other_mode, queries, other_grad,
     );
     TwoOutcomes {
@@ -89,10 +88,15 @@ pub fn in_batch(
 }
 
 // Clause 8.6: a query past the ends, or at nodes, of a grid that holds its edges.
-pub fn held_edge(axis_count: usize, axes: [Axis; 4], vals: &[f64], x: [f64; 4]) -> MarkedAnswer
+pub fn held_edge(
+    axis_count: usize,
+    axes: [Axis<f64>; 4],
+    vals: &[f64],
+    x: [f64; 4],
+) -> Marked<Answer<f64>>
     ensures held_edge { HeldEdge (AllPremises (take axis_count axes))
-        (grid_of binary64 axis_count axes vals.now Held) (at x) (as_answer result.answer) }
-    ensures answer_value { as_answer result.answer ≡ value_answer binary64 (grid_of binary64 axis_count axes vals.now Held) (at x) }
+        (grid_of binary64 axis_count axes vals.now Held) (at x) result.answer }
+    ensures answer_value { result.answer ≡ value_answer binary64 (grid_of binary64 axis_count axes vals.now Held) (at x) }
 {
     regular::interp_one(axis_count, axes, vals, EdgeMode::Held, x)
 }
@@ -100,7 +104,7 @@ pub fn held_edge(axis_count: usize, axes: [Axis; 4], vals: &[f64], x: [f64; 4]) 
 // The same in a batch.
 pub fn held_in_batch(
     axis_count: usize,
-    axes: [Axis; 4],
+    axes: [Axis<f64>; 4],
     queries: &[f64],
     vals: &[f64],
     out: &mut [f64],
@@ -118,11 +122,11 @@ pub fn held_in_batch(
 // Clause 8.8: a query at a node has no mark on any axis.
 pub fn unmarked_at_node(
     axis_count: usize,
-    axes: [Axis; 4],
+    axes: [Axis<f64>; 4],
     vals: &[f64],
     mode: EdgeMode,
     x: [f64; 4],
-) -> MarkedAnswer
+) -> Marked<Answer<f64>>
     ensures unmarked_at_node { UnmarkedAtNode (AllPremises (take axis_count axes))
         (grid_of binary64 axis_count axes vals.now mode) (at x) result.marks }
     ensures marks_value { result.marks ≡ mark_answer (grid_of binary64 axis_count axes vals.now mode) (at x) }

@@ -4,21 +4,20 @@
 
 ghost use Rattle.std.specs.Prelude.{◌≡◌, length};
 ghost use Rattle.std.specs.Float.{binary64};
-ghost use Rattle.multicubic.specs.Same.{as_answer};
 ghost use Rattle.slices.specs.Slices.{earlier};
 ghost use Rattle.slices.specs.Lent.{lent};
 ghost use Rattle.slices.specs.Internal.{PlacesOn, ValueOn, GradientOn, BothOn, InterpOn, InterpGradOn};
 ghost use Rattle.regular_query.specs.Grid.{checks_of, grid_of};
 
 use multicubic::{
-    Axis, EdgeMode, GradientAnswer, MarkedAnswer, MarkedGradient, MarkedPlaces, Outcome,
-    PlaceAnswer, answered, nowhere, unmarked,
+    Answer, Axis, EdgeMode, GradientAnswer, Marked, Outcome, PlaceAnswer, answered, unmarked,
+    unplaced,
 };
 use slices::earlier;
 use with_grad::{ValueAndGradient, refused};
 
 // The refusal of the slices, or the grid's own.
-pub fn new(slices: Outcome, axis_count: usize, axes: [Axis; 4], vals: &[f64]) -> Outcome
+pub fn new(slices: Outcome, axis_count: usize, axes: [Axis<f64>; 4], vals: &[f64]) -> Outcome
     ensures { result ≡ earlier slices (checks_of axis_count axes (length vals.now)) }
 {
     earlier(slices, regular::new(axis_count, axes, vals))
@@ -28,22 +27,19 @@ pub fn new(slices: Outcome, axis_count: usize, axes: [Axis; 4], vals: &[f64]) ->
 pub fn get_loc(
     slices: Outcome,
     axis_count: usize,
-    axes: [Axis; 4],
+    axes: [Axis<f64>; 4],
     vals: &[f64],
     mode: EdgeMode,
     x: [f64; 4],
-) -> MarkedPlaces
+) -> Marked<PlaceAnswer>
     ensures { PlacesOn (lent slices (grid_of binary64 axis_count axes vals.now mode)) x result.answer.outcome result.answer.places result.marks }
 {
     match slices {
-        Outcome::Refused { .. } => MarkedPlaces {
-            answer: PlaceAnswer {
-                outcome: new(slices, axis_count, axes, vals),
-                places: nowhere(),
-            },
+        Err(_) => Marked {
+            answer: unplaced(new(slices, axis_count, axes, vals)),
             marks: unmarked(),
         },
-        Outcome::Accepted => regular::get_loc(axis_count, axes, vals, mode, x),
+        Ok(()) => regular::get_loc(axis_count, axes, vals, mode, x),
     }
 }
 
@@ -51,19 +47,19 @@ pub fn get_loc(
 pub fn interp_one(
     slices: Outcome,
     axis_count: usize,
-    axes: [Axis; 4],
+    axes: [Axis<f64>; 4],
     vals: &[f64],
     mode: EdgeMode,
     x: [f64; 4],
-) -> MarkedAnswer
-    ensures { ValueOn binary64 (lent slices (grid_of binary64 axis_count axes vals.now mode)) x (as_answer result.answer) result.marks }
+) -> Marked<Answer<f64>>
+    ensures { ValueOn binary64 (lent slices (grid_of binary64 axis_count axes vals.now mode)) x result.answer result.marks }
 {
     match slices {
-        Outcome::Refused { .. } => MarkedAnswer {
+        Err(_) => Marked {
             answer: answered(new(slices, axis_count, axes, vals), 0.0),
             marks: unmarked(),
         },
-        Outcome::Accepted => regular::interp_one(axis_count, axes, vals, mode, x),
+        Ok(()) => regular::interp_one(axis_count, axes, vals, mode, x),
     }
 }
 
@@ -71,22 +67,22 @@ pub fn interp_one(
 pub fn interp_one_grad(
     slices: Outcome,
     axis_count: usize,
-    axes: [Axis; 4],
+    axes: [Axis<f64>; 4],
     vals: &[f64],
     mode: EdgeMode,
     x: [f64; 4],
-) -> MarkedGradient
+) -> Marked<GradientAnswer<f64>>
     ensures { GradientOn binary64 (lent slices (grid_of binary64 axis_count axes vals.now mode)) x result.answer.outcome result.answer.gradient result.marks }
 {
     match slices {
-        Outcome::Refused { .. } => MarkedGradient {
+        Err(_) => Marked {
             answer: GradientAnswer {
                 outcome: new(slices, axis_count, axes, vals),
-                gradient: [0.0, 0.0, 0.0, 0.0],
+                gradient: [0.0; 4],
             },
             marks: unmarked(),
         },
-        Outcome::Accepted => regular::interp_one_grad(axis_count, axes, vals, mode, x),
+        Ok(()) => regular::interp_one_grad(axis_count, axes, vals, mode, x),
     }
 }
 
@@ -94,19 +90,17 @@ pub fn interp_one_grad(
 pub fn interp_one_with_grad(
     slices: Outcome,
     axis_count: usize,
-    axes: [Axis; 4],
+    axes: [Axis<f64>; 4],
     vals: &[f64],
     mode: EdgeMode,
     x: [f64; 4],
-) -> ValueAndGradient
+) -> ValueAndGradient<f64>
     ensures { BothOn binary64 (lent slices (grid_of binary64 axis_count axes vals.now mode)) x
-        (as_answer result.answer) result.gradient result.marks result.sums.taken }
+        result.answer result.gradient result.marks result.sums.taken }
 {
     match slices {
-        Outcome::Refused { .. } => refused(new(slices, axis_count, axes, vals)),
-        Outcome::Accepted => {
-            regular_with_grad::interp_one_with_grad(axis_count, axes, vals, mode, x)
-        }
+        Err(_) => refused(new(slices, axis_count, axes, vals)),
+        Ok(()) => { regular_with_grad::interp_one_with_grad(axis_count, axes, vals, mode, x) }
     }
 }
 
@@ -114,7 +108,7 @@ pub fn interp_one_with_grad(
 pub fn interp(
     slices: Outcome,
     axis_count: usize,
-    axes: [Axis; 4],
+    axes: [Axis<f64>; 4],
     vals: &[f64],
     mode: EdgeMode,
     queries: &[f64],
@@ -124,8 +118,8 @@ pub fn interp(
         queries.now out.old result out.new }
 {
     match slices {
-        Outcome::Refused { .. } => new(slices, axis_count, axes, vals),
-        Outcome::Accepted => regular_batch::interp(axis_count, axes, vals, mode, queries, out),
+        Err(_) => new(slices, axis_count, axes, vals),
+        Ok(()) => regular_batch::interp(axis_count, axes, vals, mode, queries, out),
     }
 }
 
@@ -133,7 +127,7 @@ pub fn interp(
 pub fn interp_grad(
     slices: Outcome,
     axis_count: usize,
-    axes: [Axis; 4],
+    axes: [Axis<f64>; 4],
     vals: &[f64],
     mode: EdgeMode,
     queries: &[f64],
@@ -143,7 +137,7 @@ pub fn interp_grad(
         queries.now out.old result out.new }
 {
     match slices {
-        Outcome::Refused { .. } => new(slices, axis_count, axes, vals),
-        Outcome::Accepted => regular_batch::interp_grad(axis_count, axes, vals, mode, queries, out),
+        Err(_) => new(slices, axis_count, axes, vals),
+        Ok(()) => regular_batch::interp_grad(axis_count, axes, vals, mode, queries, out),
     }
 }

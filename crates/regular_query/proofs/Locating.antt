@@ -1,7 +1,9 @@
 -- Axis by axis: what the axes of a grid that is taken give to the code's loops over them.
 use mathlib.Core.Path.{◌≡◌, refl, sym, ap, ◌∙◌, subst}
 use mathlib.Core.Bool.{Bool, true, false, cond}
-use Rattle.multicubic.specs.declared.Outcome.TheVariants.{Accepted}
+use Rattle.multicubic.specs.Types.{Axis, accepted}
+use Rattle.multicubic.specs.declared.LocError.TheVariants.{Unplaceable}
+use Rattle.std.specs.Prelude.{Err, None, Ok}
 use Rattle.multicubic.specs.Grid.{any_over}
 use mathlib.Core.List.{List, [], ◌∷◌}
 use Prim.Native.Nat.{ℕ, zero, suc, ◌+◌, ◌≤◌, ◌<◌}
@@ -10,10 +12,7 @@ use lib.IntN.{pos, ◌-ℤ◌}
 use lib.ListN.{length, get_or, take}
 use lib.Seq.{length-take-le}
 use lib.Ieee.{Float, Format}
-use Rattle.multicubic.specs.declared.Axis.{Axis}
-use Rattle.multicubic.specs.declared.AxesLength.TheVariants.{Regular}
 use Rattle.multicubic.specs.declared.EdgeMode.{EdgeMode}
-use Rattle.multicubic.specs.declared.Loc.TheVariants.{At, Unplaceable}
 use Rattle.multicubic.specs.declared.Place.{Place}
 use Rattle.multicubic.specs.Place.{place_of}
 use Rattle.multicubic.proofs.Numbers.{placed_number}
@@ -55,7 +54,7 @@ axes-long f mode n axes h = axes-length f mode (take n axes) ∙ length-take-le 
 roomy_axis : (f : Format) (straight : Bool) (a : Axis) → 4 ≤ a.count → Roomy (grid_axis f straight a)
 roomy_axis f straight a h x p e = go (refused8 (quotient f a.start a.step x)) (placed_number x _ p e).1
   where
-    go : (b : Bool) → cond b Unplaceable (At (place_of a.count (floor_of (quotient f a.start a.step x) -ℤ pos 1))) ≡ At p → p.origin + 4 ≤ a.count
+    go : (b : Bool) → cond b (Err Unplaceable) (Ok (place_of a.count (floor_of (quotient f a.start a.step x) -ℤ pos 1))) ≡ Ok p → p.origin + 4 ≤ a.count
     go true e = absurd (let y : ◌≡◌ {A = ℕ} 0 1 = cc in omega arith)
     go false e = roomy_place a.count (floor_of (quotient f a.start a.step x) -ℤ pos 1) p h e
 
@@ -64,7 +63,7 @@ roomy_axes f mode [] h = tt
 roomy_axes f mode (a ∷ axes) h = (edge_roomy mode (λ straight. grid_axis f straight a) (λ straight. roomy_axis f straight a h.0), roomy_axes f mode axes h.1)
 
 -- what `strides` asks, and what it then tells
-module _ (n : ℕ) (axes : List Axis) (values : ℕ) (checked : checks_of n axes values ≡ Accepted) (cs : List ℕ) (counted : cs ≡ counts_of axes) where
+module _ (n : ℕ) (axes : List Axis) (values : ℕ) (checked : checks_of n axes values ≡ accepted) (cs : List ℕ) (counted : cs ≡ counts_of axes) where
   pub spaceable : (n ≤ 4) × (any_over (take n cs) ≡ false)
   spaceable = let p = passed n axes values checked in (p.few, rw counted p.within)
 
@@ -76,7 +75,7 @@ taken_of {values = values} ready = record { values = values; checked = ready.che
 
 -- a grid that is taken
 module _ (f : Format) (mode : EdgeMode) {n : ℕ} {axes : List Axis} (four : length axes ≡ 4) (taken : Taken n axes) where
-  sizes : Passed n (counts_of axes) taken.values Regular
+  sizes : Passed n (counts_of axes) taken.values None
   sizes = passed n axes taken.values taken.checked
 
   counts-are : grid_counts (axes_in f mode n axes) ≡ take n (counts_of axes)
@@ -93,7 +92,7 @@ module _ (f : Format) (mode : EdgeMode) {n : ℕ} {axes : List Axis} (four : len
 
   module _ (j : ℕ) (h : j < n) where
     pub long-at : 4 ≤ (get_or axes j no_axis).count
-    long-at = rw (← count_at axes j) (each_long n (counts_of axes) taken.values Regular sizes (counts-length axes ∙ four) j h)
+    long-at = rw (← count_at axes j) (each_long n (counts_of axes) taken.values None sizes (counts-length axes ∙ four) j h)
 
     pub axis-is : axis_in f mode (get_or axes j no_axis) ≡ get_or (axes_in f mode n axes) j no_grid_axis
     axis-is = let few = sizes.few in sym (axis-at f mode n axes j h (omega arith))
@@ -106,7 +105,7 @@ module _ (f : Format) (mode : EdgeMode) {n : ℕ} {axes : List Axis} (four : len
     spanned = (long-at, most-at)
 
     -- it fits a u32
-    pub origin-below : (straight : Bool) (x : Float) (p : Place) → At p ≡ (grid_axis f straight (get_or axes j no_axis)).loc x → p.origin < 4096
+    pub origin-below : (straight : Bool) (x : Float) (p : Place) → Ok p ≡ (grid_axis f straight (get_or axes j no_axis)).loc x → p.origin < 4096
     origin-below straight x p e =
         let most = most-at in
         let room : p.origin + 4 ≤ (get_or axes j no_axis).count = roomy_axis f straight (get_or axes j no_axis) long-at x p (sym e) in

@@ -1,12 +1,11 @@
 -- Section 2 and clause 3.7, regular: an axis is its start, its step and its count.
-use Rattle.std.specs.Prelude.{ℕ, Bool, not, List, map, length, take, Float}
+use Rattle.std.specs.Prelude.{ℕ, Bool, not, List, None, map, length, take, Float}
 use Rattle.std.specs.Float.{Format}
 use Rattle.std.specs.Float.Ieee.{lt}
 use Rattle.ieee.specs.Numbers.{zero}
-use Rattle.multicubic.specs.declared.Axis.{Axis}
-use Rattle.multicubic.specs.declared.AxesLength.TheVariants.{Regular}
+use Rattle.multicubic.specs.declared.Check.TheVariants.{NotRising}
+use Rattle.multicubic.specs.Types.{Axis, Outcome}
 use Rattle.multicubic.specs.declared.EdgeMode.{EdgeMode}
-use Rattle.multicubic.specs.declared.Outcome.{Outcome}
 use Rattle.multicubic.specs.Grid.{lowest, ◌then◌, size_checks}
 use Rattle.regular_axis.specs.Place.{loc_of}
 use Rattle.regular_axis.specs.Weights.{node, weights_at, derivatives_at}
@@ -23,7 +22,7 @@ counts_of axes = map (λ (a : Axis). a.count) axes
 
 -- checks 1 to 5; a regular grid has no 6 and no 10
 abbrev pub checks_of : ℕ → List Axis → ℕ → Outcome
-checks_of n axes values = size_checks n (counts_of axes) values Regular then lowest 5 not_rising 0 (take n axes)
+checks_of n axes values = size_checks n (counts_of axes) values None then lowest NotRising not_rising 0 (take n axes)
 
 abbrev pub grid_axis : Format → Bool → Axis → GridAxis
 grid_axis f straight a = record {

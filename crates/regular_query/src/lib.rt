@@ -4,8 +4,7 @@
 ghost use Rattle.std.specs.Prelude.{◌≡◌, Bool, ◌*◌, ◌≤◌, ◌<◌, length};
 ghost use Rattle.std.specs.Float.{binary64};
 ghost use Rattle.multicubic.specs.declared.EdgeMode.{EdgeMode};
-ghost use Rattle.multicubic.specs.declared.Outcome.TheVariants.{Accepted};
-ghost use Rattle.multicubic.specs.Same.{as_answer};
+ghost use Rattle.multicubic.specs.Types.{accepted};
 ghost use Rattle.grid.specs.Query.{at, marks_beside};
 ghost use Rattle.grid.specs.Batch.{found_at};
 ghost use Rattle.grid.specs.Internal.{replaced_in, row_by, Asked, answer_to};
@@ -13,38 +12,33 @@ ghost use Rattle.regular_query.specs.Grid.{counts_of, grid_axis, axes_in};
 ghost use Rattle.regular_query.specs.Internal.{Taken, Ready};
 
 use grid::{Quantity, is_component};
-use multicubic::{
-    Answer, Axis, EdgeMode, Loc, Marks, Outcome, Place, answered, is_past, linearize_extrapolation,
-    place_outcome, unmarked,
-};
+use multicubic::{Answer, Axis, EdgeMode, Marks, Outcome, Place, place_at, unmarked};
 use reduction::{reduce1, reduce2, reduce3, reduce4};
 use regular_axis::{derivatives_at, get_loc, hold, marks_at, weights_at};
 
-pub fn counts_of(axes: [Axis; 4]) -> [usize; 4]
+pub fn counts_of(axes: [Axis<f64>; 4]) -> [usize; 4]
     ensures { result ≡ counts_of axes }
 {
     [axes[0].count, axes[1].count, axes[2].count, axes[3].count]
 }
 
 // At which ends of an axis the setting replaces a coordinate as given.
-pub fn replaced_at(axis: Axis, given: f64, mode: EdgeMode) -> Marks
+pub fn replaced_at(axis: Axis<f64>, given: f64, mode: EdgeMode) -> Marks
     requires { (4 ≤ axis.count) × (axis.count ≤ 4096) }
     ensures { (straight : Bool) → result ≡ replaced_in mode (grid_axis binary64 straight axis) given }
 {
-    let neither = Marks {
-        below: false,
-        above: false,
-    };
     match mode {
-        EdgeMode::Cubic => neither,
-        EdgeMode::Straight => neither,
+        EdgeMode::Cubic | EdgeMode::Straight => Marks {
+            below: false,
+            above: false,
+        },
         EdgeMode::Held => marks_at(axis, given),
     }
 }
 
 // The weights of x's block at its place, or its derivative weights: four +0 where x stands in place of another coordinate.
 pub fn row_at(
-    axis: Axis,
+    axis: Axis<f64>,
     x: f64,
     place: Place,
     linearize_extrapolation: bool,
@@ -55,7 +49,7 @@ pub fn row_at(
     ensures { result ≡ row_by replaced (grid_axis binary64 linearize_extrapolation axis) x place derivative }
 {
     if derivative {
-        if is_past(replaced) {
+        if replaced.is_past() {
             return [0.0; 4];
         }
         return derivatives_at(axis, x, place, linearize_extrapolation);
@@ -64,28 +58,30 @@ pub fn row_at(
 }
 
 // Past which ends of each of its axes a query lies.
-fn marks_along(axis_count: usize, axes: [Axis; 4], x: [f64; 4]) -> [Marks; 4]
+fn marks_along(axis_count: usize, axes: [Axis<f64>; 4], x: [f64; 4]) -> [Marks; 4]
     requires { Taken axis_count axes }
-    ensures { (mode : EdgeMode) → result ≡ marks_beside Accepted (axes_in binary64 mode axis_count axes) (at x) }
+    ensures { (mode : EdgeMode) → result ≡ marks_beside accepted (axes_in binary64 mode axis_count axes) (at x) }
 {
     let mut marks = unmarked();
-    let mut i: usize = 0;
-    while i < axis_count {
-        let given = x[i];
-        marks[i] = marks_at(axes[i], given);
-        i += 1;
+    for i in 0..axis_count {
+        marks[i] = marks_at(axes[i], x[i]);
     }
     marks
 }
 
 // The marks beside a single query's outcome: none on refusal.
-pub fn marks_of(outcome: Outcome, axis_count: usize, axes: [Axis; 4], x: [f64; 4]) -> [Marks; 4]
-    requires { outcome ≡ Accepted → Taken axis_count axes }
+pub fn marks_of(
+    outcome: Outcome,
+    axis_count: usize,
+    axes: [Axis<f64>; 4],
+    x: [f64; 4],
+) -> [Marks; 4]
+    requires { outcome ≡ accepted → Taken axis_count axes }
     ensures { (mode : EdgeMode) → result ≡ marks_beside outcome (axes_in binary64 mode axis_count axes) (at x) }
 {
     match outcome {
-        Outcome::Refused { .. } => unmarked(),
-        Outcome::Accepted => marks_along(axis_count, axes, x),
+        Err(_) => unmarked(),
+        Ok(()) => marks_along(axis_count, axes, x),
     }
 }
 
@@ -93,7 +89,7 @@ pub fn marks_of(outcome: Outcome, axis_count: usize, axes: [Axis; 4], x: [f64; 4
 // index of the block's first value; then reduce. The dispatch stands here, and not behind a call, so that the rows stay where they are.
 pub fn answer_at(
     axis_count: usize,
-    axes: [Axis; 4],
+    axes: [Axis<f64>; 4],
     vals: &[f64],
     mode: EdgeMode,
     strides: [usize; 4],
@@ -101,45 +97,32 @@ pub fn answer_at(
     count: usize,
     i: usize,
     quantity: Quantity,
-) -> Answer
+) -> Answer<f64>
     requires ready { Ready axis_count axes (length vals.now) strides }
     requires i_lt_count { (i < count) × (axis_count * count ≤ length queries.now) }
     requires asked { Asked axis_count quantity }
-    ensures { as_answer result ≡ answer_to binary64 (axes_in binary64 mode axis_count axes) vals.now quantity i
+    ensures { result ≡ answer_to binary64 (axes_in binary64 mode axis_count axes) vals.now quantity i
         (found_at (axes_in binary64 mode axis_count axes) count queries.now i) }
 {
-    let straight = linearize_extrapolation(mode);
+    let straight = mode.linearize_extrapolation();
     let mut rows = [[0.0; 4]; 4];
     let mut base: usize = 0;
     let mut at = i;
-    let mut axis: usize = 0;
-    while axis < axis_count {
+    for axis in 0..axis_count {
         let given = queries[at];
         let own = axes[axis];
         let replaced = replaced_at(own, given, mode);
         let used = hold(own, given, replaced);
-        let loc = get_loc(own, used);
-        let place = match loc {
-            Loc::At(place) => place,
-            Loc::NotANumber => return answered(place_outcome(i, axis, loc), 0.0),
-            Loc::Unplaceable => return answered(place_outcome(i, axis, loc), 0.0),
-        };
+        let place = place_at(i, axis, get_loc(own, used))?;
         let derivative = is_component(quantity, axis);
         rows[axis] = row_at(own, used, place, straight, derivative, replaced);
-        let o = place.origin;
-        let s = strides[axis];
-        base = base + o * s;
-        at = at + count;
-        axis += 1;
+        base += place.origin * strides[axis];
+        at += count;
     }
-    if axis_count == 3 {
-        return Answer::Value(reduce3(vals, rows, strides, base));
-    }
-    if axis_count == 1 {
-        return Answer::Value(reduce1(vals, rows, strides, base));
-    }
-    if axis_count == 2 {
-        return Answer::Value(reduce2(vals, rows, strides, base));
-    }
-    Answer::Value(reduce4(vals, rows, strides, base))
+    Ok(match axis_count {
+        1 => reduce1(vals, rows, strides, base),
+        2 => reduce2(vals, rows, strides, base),
+        3 => reduce3(vals, rows, strides, base),
+        _ => reduce4(vals, rows, strides, base),
+    })
 }

@@ -1,2 +1,2 @@
--- A regular grid over f32 axes.
-pub mod Read
+-- Laws of a regular grid.
+pub mod Taking

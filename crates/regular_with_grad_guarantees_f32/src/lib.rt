@@ -12,55 +12,53 @@ ghost use Rattle.regular_query.specs.Grid.{grid_of, AllPremises};
 ghost use Rattle.guarantees.specs.Marked.{UnmarkedAtNode};
 ghost use Rattle.guarantees.specs.Statements.{HeldEdge, OwedAlone};
 ghost use Rattle.with_grad_guarantees.specs.Together.{BlockSums, TogetherOf, AsApart};
-ghost use Rattle.multicubic_f32.specs.Same.{as_answer, as_axes};
 
-use multicubic::EdgeMode;
-use multicubic_f32::AxisF32;
-use with_grad_f32::ValueAndGradientF32;
-use with_grad_guarantees_f32::{ApartAndTogetherF32, TwoTogetherF32};
+use multicubic::{Axis, EdgeMode};
+use with_grad::ValueAndGradient;
+use with_grad_guarantees::{ApartAndTogether, TwoTogether};
 
 // A query asked of both tables.
 pub fn alone(
     axis_count: usize,
-    axes: [AxisF32; 4],
+    axes: [Axis<f32>; 4],
     x: [f32; 4],
     vals: &[f32],
     mode: EdgeMode,
     other_vals: &[f32],
     other_mode: EdgeMode,
-) -> TwoTogetherF32
-    ensures owed_alone { OwedAlone (AllPremises (take axis_count (as_axes axes)))
-        (grid_of binary32 axis_count (as_axes axes) vals.now mode)
-        (grid_of binary32 axis_count (as_axes axes) other_vals.now other_mode)
-        (at x) (as_answer result.own.answer) (as_answer result.other.answer)
-        (answer_outcome (as_answer result.own.answer)) (answer_outcome (as_answer result.other.answer)) result.own.gradient result.other.gradient }
+) -> TwoTogether<f32>
+    ensures owed_alone { OwedAlone (AllPremises (take axis_count axes))
+        (grid_of binary32 axis_count axes vals.now mode)
+        (grid_of binary32 axis_count axes other_vals.now other_mode)
+        (at x) result.own.answer result.other.answer
+        (answer_outcome result.own.answer) (answer_outcome result.other.answer) result.own.gradient result.other.gradient }
     ensures block_sums { BlockSums
-        (grid_of binary32 axis_count (as_axes axes) vals.now mode)
-        (grid_of binary32 axis_count (as_axes axes) other_vals.now other_mode)
+        (grid_of binary32 axis_count axes vals.now mode)
+        (grid_of binary32 axis_count axes other_vals.now other_mode)
         (at x) result.own.sums.taken result.other.sums.taken }
-    ensures together_of { TogetherOf binary32 (grid_of binary32 axis_count (as_axes axes) vals.now mode) (at x)
-        (as_answer result.own.answer) result.own.gradient result.own.marks result.own.sums.taken }
-    ensures together_of_2 { TogetherOf binary32 (grid_of binary32 axis_count (as_axes axes) other_vals.now other_mode) (at x)
-        (as_answer result.other.answer) result.other.gradient result.other.marks result.other.sums.taken }
+    ensures together_of { TogetherOf binary32 (grid_of binary32 axis_count axes vals.now mode) (at x)
+        result.own.answer result.own.gradient result.own.marks result.own.sums.taken }
+    ensures together_of_2 { TogetherOf binary32 (grid_of binary32 axis_count axes other_vals.now other_mode) (at x)
+        result.other.answer result.other.gradient result.other.marks result.other.sums.taken }
 {
     let own = regular_with_grad_f32::interp_one_with_grad(axis_count, axes, vals, mode, x);
     let other = regular_with_grad_f32::interp_one_with_grad(
         axis_count, axes, other_vals, other_mode, x,
     );
-    TwoTogetherF32 { own, other }
+    TwoTogether { own, other }
 }
 
 // Clause 8.6: a query past the ends, or at nodes, of a grid that holds its edges.
 pub fn held_edge(
     axis_count: usize,
-    axes: [AxisF32; 4],
+    axes: [Axis<f32>; 4],
     vals: &[f32],
     x: [f32; 4],
-) -> ValueAndGradientF32
-    ensures held_edge { HeldEdge (AllPremises (take axis_count (as_axes axes)))
-        (grid_of binary32 axis_count (as_axes axes) vals.now Held) (at x) (as_answer result.answer) }
-    ensures together_of { TogetherOf binary32 (grid_of binary32 axis_count (as_axes axes) vals.now Held) (at x)
-        (as_answer result.answer) result.gradient result.marks result.sums.taken }
+) -> ValueAndGradient<f32>
+    ensures held_edge { HeldEdge (AllPremises (take axis_count axes))
+        (grid_of binary32 axis_count axes vals.now Held) (at x) result.answer }
+    ensures together_of { TogetherOf binary32 (grid_of binary32 axis_count axes vals.now Held) (at x)
+        result.answer result.gradient result.marks result.sums.taken }
 {
     regular_with_grad_f32::interp_one_with_grad(axis_count, axes, vals, EdgeMode::Held, x)
 }
@@ -68,15 +66,15 @@ pub fn held_edge(
 // Clause 8.8: a query at a node has no mark on any axis.
 pub fn unmarked_at_node(
     axis_count: usize,
-    axes: [AxisF32; 4],
+    axes: [Axis<f32>; 4],
     vals: &[f32],
     mode: EdgeMode,
     x: [f32; 4],
-) -> ValueAndGradientF32
-    ensures unmarked_at_node { UnmarkedAtNode (AllPremises (take axis_count (as_axes axes)))
-        (grid_of binary32 axis_count (as_axes axes) vals.now mode) (at x) result.marks }
-    ensures together_of { TogetherOf binary32 (grid_of binary32 axis_count (as_axes axes) vals.now mode) (at x)
-        (as_answer result.answer) result.gradient result.marks result.sums.taken }
+) -> ValueAndGradient<f32>
+    ensures unmarked_at_node { UnmarkedAtNode (AllPremises (take axis_count axes))
+        (grid_of binary32 axis_count axes vals.now mode) (at x) result.marks }
+    ensures together_of { TogetherOf binary32 (grid_of binary32 axis_count axes vals.now mode) (at x)
+        result.answer result.gradient result.marks result.sums.taken }
 {
     regular_with_grad_f32::interp_one_with_grad(axis_count, axes, vals, mode, x)
 }
@@ -84,20 +82,20 @@ pub fn unmarked_at_node(
 // Clause 6.3: a query asked by the two calls apart, and together.
 pub fn as_apart(
     axis_count: usize,
-    axes: [AxisF32; 4],
+    axes: [Axis<f32>; 4],
     vals: &[f32],
     mode: EdgeMode,
     x: [f32; 4],
-) -> ApartAndTogetherF32
-    ensures as_apart { AsApart axis_count (as_answer result.both.answer) (as_answer result.value.answer) result.gradient.answer.outcome
+) -> ApartAndTogether<f32>
+    ensures as_apart { AsApart axis_count result.both.answer result.value.answer result.gradient.answer.outcome
         result.both.gradient result.gradient.answer.gradient result.both.marks result.value.marks result.gradient.marks result.both.sums.taken }
-    ensures together_of { TogetherOf binary32 (grid_of binary32 axis_count (as_axes axes) vals.now mode) (at x)
-        (as_answer result.both.answer) result.both.gradient result.both.marks result.both.sums.taken }
+    ensures together_of { TogetherOf binary32 (grid_of binary32 axis_count axes vals.now mode) (at x)
+        result.both.answer result.both.gradient result.both.marks result.both.sums.taken }
 {
     let value = regular_f32::interp_one(axis_count, axes, vals, mode, x);
     let gradient = regular_f32::interp_one_grad(axis_count, axes, vals, mode, x);
     let both = regular_with_grad_f32::interp_one_with_grad(axis_count, axes, vals, mode, x);
-    ApartAndTogetherF32 {
+    ApartAndTogether {
         value,
         gradient,
         both,

@@ -10,30 +10,26 @@ use lib.ListN.{length, get_or, take, set, length-map, length-set, get_or-map}
 use lib.Seq.{take-suc-set, get_or-take}
 use lib.Ieee.{Float, nan, Format}
 use Rattle.ieee.specs.Numbers.{zero as nought}
-use Rattle.multicubic.specs.declared.Answer.{Answer}
-use Rattle.multicubic.specs.declared.Answer.TheVariants as Ans
-use Rattle.multicubic.specs.declared.Loc.{Loc}
-use Rattle.multicubic.specs.declared.Loc.TheVariants.{At}
+use Rattle.multicubic.specs.Types.{Answer, Loc, accepted, refusal}
+use Rattle.std.specs.Prelude.{Err, Ok}
+use Rattle.multicubic.specs.declared.LocError.{LocError}
 use Rattle.multicubic.specs.declared.Marks.{Marks}
-use Rattle.multicubic.specs.declared.Outcome.{Outcome}
-use Rattle.multicubic.specs.declared.Outcome.TheVariants.{Accepted, Refused}
 use Rattle.multicubic.specs.declared.Place.{Place}
-use Rattle.multicubic.specs.Answers.{Says, answer_outcome, value_in, answered, place_outcome}
+use Rattle.multicubic.specs.declared.Refusal.{Refusal}
+use Rattle.multicubic.specs.Answers.{check_of}
 use Rattle.multicubic.specs.Place.{Placed}
-use Rattle.multicubic.proofs.Numbers.{Unplaced, unplaced_outcome}
 use Rattle.reduction.specs.Value.{strides_of, offset, shifted, block, reduce_of}
 use Rattle.reduction.specs.Gradient.{component_of}
 use Rattle.reduction.specs.Internal.{reach, from, Reads}
 use Rattle.reduction.proofs.Reduction.{read_at, from_block}
 use Rattle.grid.specs.declared.Quantity.TheVariants.{Value}
-use Rattle.grid.specs.Query.{GridAxis, counts_of, Grid, places, find, at, origins_of, rows_of, component_at, components_of, outcome_of, value_answer, value_carried, gradient_answer, marks_beside, mark_answer}
+use Rattle.grid.specs.Query.{GridAxis, counts_of, places, find, origins_of, rows_of, component_at, components_of, marks_beside}
 use Rattle.grid.specs.Internal.{no_axis}
 use Rattle.grid.proofs.Answering.{Pass, pass_none, pass-small, pass-turn, pass-places, pass-room, pass-value, rows-value, no_placed, component-of}
 use Rattle.grid.proofs.Batches.{components-length}
 use Rattle.grid.proofs.Fit.{Fit}
 use Rattle.grid.proofs.Locating.{placed_on, so-far-refused, so-far-all, unplaced_on, map-one}
-use Rattle.grid.proofs.Singles.{value-refused, value-says}
-use Rattle.shared_sums.specs.Sums.{steps_of, sums_answer}
+use Rattle.shared_sums.specs.Sums.{steps_of}
 use Rattle.shared_sums.specs.Internal.{Reduced, RefusedBy, BothTo}
 
 abbrev slopes_of : List Placed → List (List Float)
@@ -105,15 +101,15 @@ module _ {n : ℕ} {gs : List GridAxis} {values : ℕ} (fit : Fit n gs values) {
     here : {l : Loc} → l ≡ g.loc (query axis) → l ≡ (get_or gs axis no_axis).loc (query axis)
     here e = e ∙ ap (λ (k : GridAxis). k.loc (query axis)) same
 
-    pub both-refused : (f : Format) (vals : List Float) {l : Loc} → l ≡ g.loc (query axis) → Unplaced l
-        → {o : Outcome} {answer : Answer} {gradient : List Float} {marks : List Marks} {taken : ℕ} → o ≡ place_outcome 0 axis l → RefusedBy o answer gradient marks taken
+    pub both-refused : (f : Format) (vals : List Float) (error : LocError) → Err error ≡ g.loc (query axis)
+        → {by : Refusal} {answer : Answer} {gradient : List Float} {marks : List Marks} {taken : ℕ} → by ≡ refusal (check_of error) 0 axis → RefusedBy (Err by) answer gradient marks taken
         → BothTo f n gs vals query answer gradient marks taken
-    both-refused f vals {l} e u p r =
+    both-refused f vals error e p r =
         let inside : axis < length gs = let c = fit.counted in omega arith in
-        let z = so-far-refused gs query axis s.pass.so_far inside _ (unplaced_on (get_or gs axis no_axis) (query axis) l u (here e)) in
-        (r.0 ∙ ap (λ (q : Outcome). answered q nought) (p ∙ unplaced_outcome l u 0 axis) ∙ rw z refl, r.1 ∙ rw z refl, r.2 ∙ rw z refl, r.3 ∙ rw z refl)
+        let z = so-far-refused gs query axis s.pass.so_far inside _ (unplaced_on (get_or gs axis no_axis) (query axis) error (here e)) in
+        (r.0 ∙ ap Err p ∙ rw z refl, r.1 ∙ rw z refl, r.2 ∙ rw z refl, r.3 ∙ rw z refl)
 
-    module _ (p : Place) (e : At p ≡ g.loc (query axis)) where
+    module _ (p : Place) (e : Ok p ≡ g.loc (query axis)) where
       -- the index stays small
       pub both_small : base + p.origin * get_or strides axis 0 < 1048576
       both_small = let m = fit.most in let l = pass-small fit s.four s.spaced s.pass h p (here e) in omega arith
@@ -192,32 +188,9 @@ module _ {n : ℕ} {gs : List GridAxis} {values : ℕ} (fit : Fit n gs values) {
           ∙ ap (λ (k : ℕ). component_at f (counts_of gs) vals ps k (get_or ps d no_placed)) (sym z)
           ∙ sym (component-of f (counts_of gs) vals 0 d ps ps (omega (arith, many)))
 
-      pub both-done : {marks : List Marks} {taken : ℕ} → marks ≡ marks_beside Accepted gs query → taken ≡ steps_of n → BothTo f n gs vals query (Ans.Value value) gradient marks taken
+      pub both-done : {marks : List Marks} {taken : ℕ} → marks ≡ marks_beside accepted gs query → taken ≡ steps_of n → BothTo f n gs vals query (Ok value) gradient marks taken
       both-done m t =
           let few = fit.few in
           let cl : length (components_of f (counts_of gs) vals ps) ≡ n = components-length f (counts_of gs) vals ps 0 ps ∙ many in
           let g = four_are gradient (components_of f (counts_of gs) vals ps) long (omega arith) (λ d h. component d (omega arith)) (λ d h k. reduced.past d (omega arith) k) in
           (pass-value fit s.four s.spaced s.pass done f vals 0 value tt reduced.value-is, g ∙ rw all refl, m ∙ rw all refl, t ∙ rw all refl)
-
--- ---- a call: the grid's refusal, or what its axes give
-module _ (f : Format) (g : Grid) (x : List Float) where
-  -- what `interp_one_with_grad` promises
-  abbrev Promised : Answer → List Float → List Marks → ℕ → Type 0
-  Promised answer gradient marks taken =
-      (answer ≡ value_answer f g (at x))
-      × ((gradient ≡ gradient_answer f g (at x))
-      × ((marks ≡ mark_answer g (at x)) × ((taken ≡ sums_answer g (at x)) × (Says (answer_outcome answer) (outcome_of g (at x)) × (value_in answer ≡ value_carried f g (at x))))))
-
-  promised : {answer : Answer} {gradient : List Float} {marks : List Marks} {taken : ℕ} → answer ≡ value_answer f g (at x) → gradient ≡ gradient_answer f g (at x)
-      → marks ≡ mark_answer g (at x) → taken ≡ sums_answer g (at x) → Promised answer gradient marks taken
-  promised a h m t = let w = value-says f g x a in (w.0, (h, (m, (t, w.1))))
-
-  pub call-refused : {checked : Outcome} {number query axis : ℕ} {answer : Answer} {gradient : List Float} {marks : List Marks} {taken : ℕ} → checked ≡ g.checked
-      → checked ≡ Refused number query axis → RefusedBy checked answer gradient marks taken → Promised answer gradient marks taken
-  call-refused {checked} {number} {query} {axis} e r p =
-      let t : g.checked ≡ Refused number query axis = sym e ∙ r in
-      promised (p.0 ∙ value-refused f g x checked nought e r) (p.1 ∙ rw t refl) (p.2 ∙ rw t refl) (p.3 ∙ rw t refl)
-
-  pub call-answered : {answer : Answer} {gradient : List Float} {marks : List Marks} {taken : ℕ} → g.checked ≡ Accepted
-      → BothTo f g.axis-count g.axes g.vals (at x) answer gradient marks taken → Promised answer gradient marks taken
-  call-answered e p = promised (rw e p.0) (rw e p.1) (rw e p.2) (rw e p.3)

@@ -2,9 +2,8 @@
 use Rattle.std.specs.Prelude.{ℕ, ◌≤◌, ◌<◌, ◌≡◌, List, [], ◌∷◌, get_or, take, Float}
 use Rattle.std.specs.Float.{nan, Format}
 use Rattle.ieee.specs.Numbers.{zero}
-use Rattle.multicubic.specs.declared.Answer.{Answer}
+use Rattle.multicubic.specs.Types.{Answer, Outcome}
 use Rattle.multicubic.specs.declared.Marks.{Marks}
-use Rattle.multicubic.specs.declared.Outcome.{Outcome}
 use Rattle.multicubic.specs.Answers.{answered}
 use Rattle.multicubic.specs.Internal.{four_unmarked}
 use Rattle.reduction.specs.Value.{reduce_of}

@@ -1,7 +1,6 @@
 -- Clause 6.4: how many four-term sums value and gradient take together.
-use Rattle.std.specs.Prelude.{ℕ, zero, suc, ◌+◌, ◌-◌, ◌*◌, ◌^◌, Float}
-use Rattle.multicubic.specs.declared.Outcome.{Outcome}
-use Rattle.multicubic.specs.declared.Outcome.TheVariants.{Accepted, Refused}
+use Rattle.std.specs.Prelude.{ℕ, zero, suc, ◌+◌, ◌-◌, ◌*◌, ◌^◌, Ok, Err, Float}
+use Rattle.multicubic.specs.Types.{Outcome}
 use Rattle.grid.specs.Query.{Grid, outcome_of}
 
 -- the sum over j from 1 on of 4^(n-j) × (1+j), as far as j
@@ -15,8 +14,8 @@ steps_of n = steps_to n n
 
 -- a call that refuses its grid or its query takes none
 abbrev pub sums_of : Outcome → ℕ → ℕ
-sums_of Accepted n = steps_of n
-sums_of (Refused number query axis) n = 0
+sums_of (Ok _) n = steps_of n
+sums_of (Err r) n = 0
 
 abbrev pub sums_answer : Grid → (ℕ → Float) → ℕ
 sums_answer g query = sums_of (outcome_of g query) g.axis-count

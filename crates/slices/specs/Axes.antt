@@ -1,7 +1,7 @@
 -- Regular axes gathered from slices.
 use Rattle.std.specs.Prelude.{ℕ, List, [], ◌∷◌, get_or, Float}
 use Rattle.ieee.specs.Numbers.{zero}
-use Rattle.multicubic.specs.declared.Axis.{Axis}
+use Rattle.multicubic.specs.Types.{Axis}
 
 -- axis i
 abbrev pub axis_from : List ℕ → List Float → List Float → ℕ → Axis

@@ -2,9 +2,8 @@
 -- the calls for C do not mention it.
 use Rattle.std.specs.Prelude.{ℕ, ◌≡◌, List, Float}
 use Rattle.std.specs.Float.{Format}
-use Rattle.multicubic.specs.declared.Answer.{Answer}
+use Rattle.multicubic.specs.Types.{Answer, Outcome}
 use Rattle.multicubic.specs.declared.Marks.{Marks}
-use Rattle.multicubic.specs.declared.Outcome.{Outcome}
 use Rattle.multicubic.specs.declared.Place.{Place}
 use Rattle.grid.specs.Query.{Grid, at, outcome_of, value_answer, gradient_answer, place_answer, mark_answer}
 use Rattle.grid.specs.Batch.{interp_outcome, interp_buffer, grad_outcome, grad_buffer}

@@ -1,7 +1,7 @@
 -- A grid gathered from slices of any length, as a call sees it: the refusals of slices that are too short are among its checks.
 use Rattle.std.specs.Prelude.{ℕ}
 use Rattle.multicubic.specs.declared.EdgeMode.{EdgeMode}
-use Rattle.multicubic.specs.declared.Outcome.{Outcome}
+use Rattle.multicubic.specs.Types.{Outcome}
 use Rattle.grid.specs.Query.{Grid}
 use Rattle.slices.specs.Slices.{mode_of, named_by, slices_of, query_slices_of, earlier}
 

@@ -3,78 +3,73 @@
 #![tactic(auto)]
 
 ghost use Rattle.std.specs.Prelude.{◌≡◌, min, get_or};
-ghost use Rattle.ieee.specs.Numbers.{zero};
 ghost use Rattle.slices.specs.Axes.{axis_from, axes_from};
 ghost use Rattle.slices.specs.Slices.{counts_from, query_from, mode_of, named_by, slices_of, query_slices_of, earlier};
 
-use multicubic::{Axis, EdgeMode, Outcome};
+use multicubic::{Axis, Check, EdgeMode, Outcome};
 
-// Count i; one that is missing is 1.
-pub fn count_at(counts: &[usize], i: usize) -> usize
-    ensures { result ≡ get_or counts.now i 1 }
+// Entry i; in place of one that is missing stands another.
+pub fn entry_or<T: Copy>(xs: &[T], i: usize, missing: T) -> T
+    ensures { result ≡ get_or xs.now i missing }
 {
-    if i < counts.len() { counts[i] } else { 1 }
-}
-
-fn float_at(xs: &[f64], i: usize) -> f64
-    ensures { result ≡ get_or xs.now i zero }
-{
-    if i < xs.len() { xs[i] } else { 0.0 }
+    xs.get(i).copied().unwrap_or(missing)
 }
 
 // Four counts; one that is missing is 1.
 pub fn counts_from(counts: &[usize]) -> [usize; 4]
     ensures { result ≡ counts_from counts.now }
 {
-    let c0 = count_at(counts, 0);
-    let c1 = count_at(counts, 1);
-    let c2 = count_at(counts, 2);
-    let c3 = count_at(counts, 3);
-    [c0, c1, c2, c3]
+    [
+        entry_or(counts, 0, 1),
+        entry_or(counts, 1, 1),
+        entry_or(counts, 2, 1),
+        entry_or(counts, 3, 1),
+    ]
 }
 
 // Four coordinates.
 pub fn query_from(x: &[f64]) -> [f64; 4]
     ensures { result ≡ query_from x.now }
 {
-    let x0 = float_at(x, 0);
-    let x1 = float_at(x, 1);
-    let x2 = float_at(x, 2);
-    let x3 = float_at(x, 3);
-    [x0, x1, x2, x3]
+    [
+        entry_or(x, 0, 0.0),
+        entry_or(x, 1, 0.0),
+        entry_or(x, 2, 0.0),
+        entry_or(x, 3, 0.0),
+    ]
 }
 
-fn axis_from(counts: &[usize], starts: &[f64], steps: &[f64], i: usize) -> Axis
+fn axis_from(counts: &[usize], starts: &[f64], steps: &[f64], i: usize) -> Axis<f64>
     ensures { result ≡ axis_from counts.now starts.now steps.now i }
 {
-    let start = float_at(starts, i);
-    let step = float_at(steps, i);
-    let count = count_at(counts, i);
-    Axis { start, step, count }
+    Axis {
+        start: entry_or(starts, i, 0.0),
+        step: entry_or(steps, i, 0.0),
+        count: entry_or(counts, i, 1),
+    }
 }
 
 // Four regular axes.
-pub fn axes_from(counts: &[usize], starts: &[f64], steps: &[f64]) -> [Axis; 4]
+pub fn axes_from(counts: &[usize], starts: &[f64], steps: &[f64]) -> [Axis<f64>; 4]
     ensures { result ≡ axes_from counts.now starts.now steps.now }
 {
-    let a0 = axis_from(counts, starts, steps, 0);
-    let a1 = axis_from(counts, starts, steps, 1);
-    let a2 = axis_from(counts, starts, steps, 2);
-    let a3 = axis_from(counts, starts, steps, 3);
-    [a0, a1, a2, a3]
+    [
+        axis_from(counts, starts, steps, 0),
+        axis_from(counts, starts, steps, 1),
+        axis_from(counts, starts, steps, 2),
+        axis_from(counts, starts, steps, 3),
+    ]
 }
 
 // The setting of a number. A call with a number above 2 is refused, so it does not matter which setting that has.
 pub fn mode_of(mode: u8) -> EdgeMode
     ensures { result ≡ mode_of mode }
 {
-    if mode == 0 {
-        return EdgeMode::Cubic;
+    match mode {
+        0 => EdgeMode::Cubic,
+        1 => EdgeMode::Straight,
+        _ => EdgeMode::Held,
     }
-    if mode == 1 {
-        return EdgeMode::Straight;
-    }
-    EdgeMode::Held
 }
 
 // A number above 2 names no setting, and is refused as a slice without entries is.
@@ -88,7 +83,7 @@ pub fn named(mode: u8, shortest: usize) -> usize
 pub fn least(a: usize, b: usize) -> usize
     ensures { result ≡ min a b }
 {
-    if a < b { a } else { b }
+    a.min(b)
 }
 
 // The least of three lengths.
@@ -98,30 +93,22 @@ pub fn shortest_of(a: usize, b: usize, c: usize) -> usize
     least(a, least(b, c))
 }
 
-fn refused(number: u8) -> Outcome
-    ensures { result ≡ Outcome.Refused number 0 0 }
-{
-    Outcome::Refused {
-        number,
-        query: 0,
-        axis: 0,
-    }
-}
-
 // The slices of a call without a single query, by the shortest that is read and the length of `refusal`.
+#[tactic(auto, unfolding(crate::specs::Slices::slices_of))]
 pub fn check_slices(axis_count: usize, shortest: usize, refusal: usize) -> Outcome
     ensures { result ≡ slices_of axis_count shortest refusal }
 {
     if shortest < axis_count {
-        return refused(3);
+        return Err(Check::WrongLength.at(0, 0));
     }
     if refusal < 2 {
-        return refused(7);
+        return Err(Check::BatchLength.at(0, 0));
     }
-    Outcome::Accepted
+    Ok(())
 }
 
 // Those of a single query: of what is to be written `room` entries are lent, and `need` are needed; and a mark is written for each axis.
+#[tactic(auto, unfolding(crate::specs::Slices::query_slices_of))]
 pub fn check_query_slices(
     axis_count: usize,
     shortest: usize,
@@ -133,38 +120,22 @@ pub fn check_query_slices(
 ) -> Outcome
     ensures { result ≡ query_slices_of axis_count shortest query refusal room need marks }
 {
-    let slices = check_slices(axis_count, least(shortest, query), refusal);
-    match slices {
-        Outcome::Refused { .. } => slices,
-        Outcome::Accepted => {
-            if room < need {
-                return refused(7);
-            }
-            if marks < axis_count {
-                return refused(7);
-            }
-            slices
-        }
+    check_slices(axis_count, least(shortest, query), refusal)?;
+    if room < need || marks < axis_count {
+        return Err(Check::BatchLength.at(0, 0));
     }
+    Ok(())
 }
 
 // Of the slices' refusal and the grid's own the one whose check comes first.
 pub fn earlier(slices: Outcome, checked: Outcome) -> Outcome
     ensures { result ≡ earlier slices checked }
 {
-    match slices {
-        Outcome::Refused { number: last, .. } => match checked {
-            Outcome::Refused { number, .. } => {
-                if number < 3 {
-                    return checked;
-                }
-                if last == 7 {
-                    return checked;
-                }
-                slices
-            }
-            Outcome::Accepted => slices,
-        },
-        Outcome::Accepted => checked,
+    let Err(short) = slices else { return checked };
+    let Err(own) = checked else { return slices };
+    if own.check.number() < 3 || short.check.number() == 7 {
+        checked
+    } else {
+        slices
     }
 }

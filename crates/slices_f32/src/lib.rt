@@ -3,48 +3,43 @@
 // number; one that names none is refused with them.
 #![tactic(auto)]
 
-ghost use Rattle.std.specs.Prelude.{◌≡◌, get_or};
-ghost use Rattle.ieee.specs.Numbers.{zero};
+ghost use Rattle.std.specs.Prelude.{◌≡◌};
 ghost use Rattle.slices.specs.Axes.{axis_from, axes_from};
 ghost use Rattle.slices.specs.Slices.{query_from};
-ghost use Rattle.multicubic_f32.specs.Same.{as_axis, as_axes};
 
-use multicubic_f32::AxisF32;
-use slices::count_at;
-
-fn float_at(xs: &[f32], i: usize) -> f32
-    ensures { result ≡ get_or xs.now i zero }
-{
-    if i < xs.len() { xs[i] } else { 0.0 }
-}
+use multicubic::Axis;
+use slices::entry_or;
 
 // Four coordinates.
 pub fn query_from(x: &[f32]) -> [f32; 4]
     ensures { result ≡ query_from x.now }
 {
-    let x0 = float_at(x, 0);
-    let x1 = float_at(x, 1);
-    let x2 = float_at(x, 2);
-    let x3 = float_at(x, 3);
-    [x0, x1, x2, x3]
+    [
+        entry_or(x, 0, 0.0),
+        entry_or(x, 1, 0.0),
+        entry_or(x, 2, 0.0),
+        entry_or(x, 3, 0.0),
+    ]
 }
 
-fn axis_from(counts: &[usize], starts: &[f32], steps: &[f32], i: usize) -> AxisF32
-    ensures { as_axis result ≡ axis_from counts.now starts.now steps.now i }
+fn axis_from(counts: &[usize], starts: &[f32], steps: &[f32], i: usize) -> Axis<f32>
+    ensures { result ≡ axis_from counts.now starts.now steps.now i }
 {
-    let start = float_at(starts, i);
-    let step = float_at(steps, i);
-    let count = count_at(counts, i);
-    AxisF32 { start, step, count }
+    Axis {
+        start: entry_or(starts, i, 0.0),
+        step: entry_or(steps, i, 0.0),
+        count: entry_or(counts, i, 1),
+    }
 }
 
 // Four regular axes.
-pub fn axes_from(counts: &[usize], starts: &[f32], steps: &[f32]) -> [AxisF32; 4]
-    ensures { as_axes result ≡ axes_from counts.now starts.now steps.now }
+pub fn axes_from(counts: &[usize], starts: &[f32], steps: &[f32]) -> [Axis<f32>; 4]
+    ensures { result ≡ axes_from counts.now starts.now steps.now }
 {
-    let a0 = axis_from(counts, starts, steps, 0);
-    let a1 = axis_from(counts, starts, steps, 1);
-    let a2 = axis_from(counts, starts, steps, 2);
-    let a3 = axis_from(counts, starts, steps, 3);
-    [a0, a1, a2, a3]
+    [
+        axis_from(counts, starts, steps, 0),
+        axis_from(counts, starts, steps, 1),
+        axis_from(counts, starts, steps, 2),
+        axis_from(counts, starts, steps, 3),
+    ]
 }

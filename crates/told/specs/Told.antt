@@ -1,10 +1,8 @@
 -- What a call for C leaves: its number, query and axis beside it, and what it writes.
-use Rattle.std.specs.Prelude.{ℕ, cond, ◌||◌, List, [], ◌∷◌, map, ltb, eqb, length, take, set, Float}
-use Rattle.multicubic.specs.declared.Answer.{Answer}
-use Rattle.multicubic.specs.declared.Answer.TheVariants as Ans
+use Rattle.std.specs.Prelude.{ℕ, cond, ◌||◌, List, [], ◌∷◌, map, Result, Ok, Err, ltb, eqb, length, take, set}
+use Rattle.multicubic.specs.declared.Refusal.{Refusal}
+use Rattle.multicubic.specs.Types.{Outcome}
 use Rattle.multicubic.specs.declared.Marks.{Marks}
-use Rattle.multicubic.specs.declared.Outcome.{Outcome}
-use Rattle.multicubic.specs.declared.Outcome.TheVariants.{Accepted, Refused}
 use Rattle.multicubic.specs.declared.Place.{Place}
 use Rattle.multicubic.specs.declared.Saturation.{Saturation}
 use Rattle.multicubic.specs.declared.Saturation.TheVariants.{None, InsideLow, OutsideLow, InsideHigh, OutsideHigh}
@@ -15,9 +13,9 @@ abbrev pub told : Outcome → List ℕ → List ℕ
 told outcome before = cond (eqb (number_of outcome) 7 || ltb (length before) 2) before (set (set before 0 (query_of outcome)) 1 (axis_of outcome))
 
 -- a value, where there is one
-abbrev pub with_value : Answer → List Float → List Float
-with_value (Ans.Refused number query axis) before = before
-with_value (Ans.Value v) before = set before 0 v
+abbrev pub with_value : {A : Type 0} → Result A Refusal → List A → List A
+with_value (Err r) before = before
+with_value (Ok v) before = set before 0 v
 
 -- some in place of the first entries, as far as there are any
 abbrev pub over : {A : Type 0} → List A → List A → List A
@@ -27,8 +25,8 @@ over (x ∷ xs) (y ∷ before) = x ∷ over xs before
 
 -- how many of a call's entries, one for each axis, are written
 abbrev pub entries_of : Outcome → ℕ → ℕ
-entries_of (Refused number query axis) n = 0
-entries_of Accepted n = n
+entries_of (Err r) n = 0
+entries_of (Ok _) n = n
 
 abbrev pub with_first : {A : Type 0} → Outcome → ℕ → List A → List A → List A
 with_first outcome n xs before = over (take (entries_of outcome n) xs) before
@@ -65,7 +63,7 @@ abbrev pub with_sums : Outcome → ℕ → List ℕ → List ℕ
 with_sums outcome taken before = cond (eqb (number_of outcome) 7) before (set before 0 taken)
 
 -- a value and a gradient, where there are any, and the number of sums
-abbrev pub with_both : Answer → ℕ → List Float → ℕ → List Float → List Float → List ℕ → (List Float × List Float) × List ℕ
+abbrev pub with_both : {A : Type 0} → Result A Refusal → ℕ → List A → ℕ → List A → List A → List ℕ → (List A × List A) × List ℕ
 with_both answer n components taken value gradient sums =
     ((with_value answer value, with_first (answer_outcome answer) n components gradient), with_sums (answer_outcome answer) taken sums)
 

@@ -3,9 +3,8 @@ use mathlib.Core.Path.{◌≡◌, sym, ap, ◌∙◌}
 use mathlib.Core.List.{List}
 use Prim.Native.Nat.{ℕ}
 use lib.Ieee.{Float, Format}
-use Rattle.multicubic.specs.declared.Answer.{Answer}
+use Rattle.multicubic.specs.Types.{Answer, Outcome}
 use Rattle.multicubic.specs.declared.Marks.{Marks}
-use Rattle.multicubic.specs.declared.Outcome.{Outcome}
 use Rattle.multicubic.specs.Answers.{answer_outcome}
 use Rattle.multicubic.specs.Grid.{◌then◌}
 use Rattle.multicubic.specs.Place.{Placed}

@@ -2,9 +2,8 @@
 -- both: the outcome of the gradient is that of the value.
 use Rattle.std.specs.Prelude.{ℕ, ◌≡◌, List, Float}
 use Rattle.std.specs.Float.{Format}
-use Rattle.multicubic.specs.declared.Answer.{Answer}
+use Rattle.multicubic.specs.Types.{Answer, Outcome}
 use Rattle.multicubic.specs.declared.Marks.{Marks}
-use Rattle.multicubic.specs.declared.Outcome.{Outcome}
 use Rattle.multicubic.specs.Answers.{answer_outcome}
 use Rattle.multicubic.specs.Place.{Placed}
 use Rattle.grid.specs.Query.{Grid, mark_answer}

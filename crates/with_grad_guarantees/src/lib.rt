@@ -2,20 +2,20 @@
 // functions that make the calls stand in regular_with_grad_guarantees and rectilinear_with_grad_guarantees.
 #![tactic(auto)]
 
-use multicubic::{MarkedAnswer, MarkedGradient};
+use multicubic::{Answer, GradientAnswer, Marked};
 use with_grad::ValueAndGradient;
 
 // What two tables answer to a query.
 #[derive(Clone, Copy)]
-pub struct TwoTogether {
-    pub own: ValueAndGradient,
-    pub other: ValueAndGradient,
+pub struct TwoTogether<T> {
+    pub own: ValueAndGradient<T>,
+    pub other: ValueAndGradient<T>,
 }
 
 // What one table answers to a query, by the two calls apart and by the one.
 #[derive(Clone, Copy)]
-pub struct ApartAndTogether {
-    pub value: MarkedAnswer,
-    pub gradient: MarkedGradient,
-    pub both: ValueAndGradient,
+pub struct ApartAndTogether<T> {
+    pub value: Marked<Answer<T>>,
+    pub gradient: Marked<GradientAnswer<T>>,
+    pub both: ValueAndGradient<T>,
 }

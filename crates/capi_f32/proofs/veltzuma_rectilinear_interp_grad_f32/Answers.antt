@@ -1,13 +1,10 @@
--- The buffer is filled, and the outcome told.
-use lib.Ieee.{binary32}
-use Rattle.slices.specs.Lent.{set_by}
+-- What is told and what is filled, over the grid as it is lent.
 use Rattle.rectilinear_lent.specs.Rectilinear.{rectilinear_from}
-use Rattle.rectilinear_lent.proofs.Gathering.{lent-to}
-use Rattle.capi.proofs.Laws.{interp-grad-leaves}
+use Rattle.capi.specs.Calls.{interp_grad_leaves}
 use Rattle.capi_f32.proofs.veltzuma_rectilinear_interp_grad_f32.Goals as goal
 
 pub returns : goal.returns
+unfolding interp_grad_leaves rectilinear_from
 returns c =
-    let a = c.args in
-    let lent = lent-to binary32 a.axis_count a.counts.now a.axes.now a.vals.now c.counts_from-four.ensures a.mode c.mode_of.ensures c.named-shortest.ensures _ c.check_slices-slices.ensures in
-    interp-grad-leaves (set_by (rectilinear_from binary32 a.axis_count a.counts.now a.axes.now a.vals.now) a.mode) a.refusal.now lent c.tell.ensures.value c.tell.ensures.refusal_after binary32 a.queries.now a.out.now c.interp_grad-outcome.ensures
+    let asked = c.interp_grad-outcome.ensures in
+    rw (c.tell.ensures.value, c.tell.ensures.refusal_after, asked.0, asked.1, c.check_slices-slices.ensures, c.counts_from-four.ensures, c.mode_of.ensures, c.named-shortest.ensures)

@@ -1,13 +1,10 @@
--- The buffer is filled, and the outcome told.
-use lib.Ieee.{binary32}
-use Rattle.slices.specs.Lent.{set_by}
+-- What is told and what is filled, over the grid as it is lent.
 use Rattle.regular_lent.specs.Regular.{regular_from}
-use Rattle.regular_lent.proofs.Gathering.{lent-to}
-use Rattle.capi.proofs.Laws.{interp-leaves}
+use Rattle.capi.specs.Calls.{interp_leaves}
 use Rattle.capi_f32.proofs.veltzuma_regular_interp_f32.Goals as goal
 
 pub returns : goal.returns
+unfolding interp_leaves regular_from
 returns c =
-    let a = c.args in
-    let lent = lent-to binary32 a.axis_count a.counts.now a.starts.now a.steps.now a.vals.now c.axes_from-axes.ensures a.mode c.mode_of.ensures c.named-shortest.ensures c.shortest_of.ensures _ c.check_slices-slices.ensures in
-    interp-leaves (set_by (regular_from binary32 a.axis_count a.counts.now a.starts.now a.steps.now a.vals.now) a.mode) a.refusal.now lent c.tell.ensures.value c.tell.ensures.refusal_after binary32 a.queries.now a.out.now c.interp-outcome.ensures
+    let asked = c.interp-outcome.ensures in
+    rw (c.tell.ensures.value, c.tell.ensures.refusal_after, asked.0, asked.1, c.check_slices-slices.ensures, c.axes_from-axes.ensures, c.mode_of.ensures, c.named-shortest.ensures, c.shortest_of.ensures)

@@ -1,14 +1,9 @@
--- A float that differs from itself is the NaN, which has one pattern here; any other has its own.
-use Rattle.std.proofs.Common.{Bool, not, T, sym, ap, subst}
+-- The NaN has one pattern here.
+use Rattle.std.proofs.Common.{sym, ap, ◌∙◌}
 use lib.Ieee.{binary64, to_bits}
-use lib.Ieee.Compare.{differs_from_itself}
-use Rattle.ieee.proofs.Nan.{same_number}
+use Rattle.ieee.proofs.Nan.{nan_is}
 use Rattle.harness_words.proofs.bits_of.Goals as goal
 
-pub float_to_bits-result : goal.float_to_bits-result
-float_to_bits-result c = subst (λ (b : Bool). T (not b)) (sym (same_number c.args.x c.if-x.false)) tt
-
-pub returns-then-x : goal.returns-then-x
+pub returns-then-is_nan : goal.returns-then-is_nan
 unfolding to_bits
-returns-then-x c =
-    sym (ap (to_bits binary64) (differs_from_itself c.args.x (subst T (sym c.if-x.true) tt)))
+returns-then-is_nan c = sym (ap (to_bits binary64) (nan_is c.args.x (sym c.is_nan.ensures.value ∙ c.if-is_nan.true)))

@@ -24,7 +24,7 @@ returns-then-any_over c =
 
 pub product_of-size-requires : goal.product_of-size-requires
 product_of-size-requires c = record {
-  n_bound = search rules;
+  counts_bound = search rules;
   counts_value = sym c.any_over.ensures ∙ c.if-any_over.false;
 }
 

@@ -20,7 +20,7 @@ returns-then-k-n-2 c =
     let a = c.args in
     sym (inside-high a.n a.k (omega arith) (omega arith) c.if-k-n-2.true)
 
-pub returns : goal.returns
-returns c =
+pub returns-else-k-n-2 : goal.returns-else-k-n-2
+returns-else-k-n-2 c =
     let a = c.args in
     sym (outside_high a.n a.k (omega arith) (omega arith) (omega arith))

@@ -3,49 +3,31 @@ use mathlib.Core.Path.{sym, ◌∙◌}
 use native.Mathlib.Omega.{arith}
 use lib.ListN.{length}
 use lib.Ieee.{binary64}
-use Rattle.grid.proofs.Singles.{value-refused, value-single, value-says}
+use Rattle.grid.proofs.Singles.{value-single, value-says}
 use Rattle.rectilinear_query.specs.Grid.{grid_of}
 use Rattle.rectilinear_query.proofs.Locating.{spaceable, ready_by}
 use Rattle.rectilinear.proofs.find_value.Goals as goal
 
 pub strides-requires : goal.strides-requires
 strides-requires c =
-    let a = c.args in
-    let every = spaceable a.axis_count a.counts a.axes.now (length a.vals.now) (sym c.new-checked.ensures.value ∙ c.in-Accepted.is) in
-    record {
-      n_bound = every.0;
-      counts_value = every.1;
-    }
+    let every = spaceable c.args.axis_count c.args.counts c.args.axes.now (length c.args.vals.now) (sym c.new.ensures.value ∙ c.in_ok-new.was) in
+    record { n_bound = every.0; counts_value = every.1 }
 
 pub answer_at-requires : goal.answer_at-requires
 answer_at-requires c =
-    let a = c.args in
-    let taken = sym c.new-checked.ensures.value ∙ c.in-Accepted.is in
-    let few = (spaceable a.axis_count a.counts a.axes.now (length a.vals.now) taken).0 in
+    let taken = sym c.new.ensures.value ∙ c.in_ok-new.was in
+    let few = (spaceable c.args.axis_count c.args.counts c.args.axes.now (length c.args.vals.now) taken).0 in
     record {
-      ready = ready_by a.axis_count a.counts a.axes.now (length a.vals.now) taken _ c.strides.ensures;
+      ready = ready_by c.args.axis_count c.args.counts c.args.axes.now (length c.args.vals.now) taken _ c.strides.ensures;
       i_lt_count = (omega arith, omega arith);
       asked = tt;
     }
 
-pub returns-in-Refused : goal.returns-in-Refused
-returns-in-Refused c =
-    let a = c.args in
-    let every = value-says binary64 (grid_of binary64 a.axis_count a.counts a.axes.now a.vals.now a.mode) a.x
-    (c.answered.ensures ∙ value-refused binary64 (grid_of binary64 a.axis_count a.counts a.axes.now a.vals.now a.mode) a.x _ _
-    c.new-checked.ensures.value c.in-Refused.is) in
-    record {
-      result_value = every.0;
-      says = every.1.0;
-      result_value_2 = every.1.1;
-    }
-
-pub returns-in-Accepted : goal.returns-in-Accepted
-returns-in-Accepted c =
-    let a = c.args in
-    let every = value-says binary64 (grid_of binary64 a.axis_count a.counts a.axes.now a.vals.now a.mode) a.x
-    (c.answer_at.ensures ∙ value-single binary64 (grid_of binary64 a.axis_count a.counts a.axes.now a.vals.now a.mode) a.x
-    (sym c.new-checked.ensures.value ∙ c.in-Accepted.is)) in
+pub returns : goal.returns
+returns c =
+    let every = value-says binary64 (grid_of binary64 c.args.axis_count c.args.counts c.args.axes.now c.args.vals.now c.args.mode) c.args.x
+    (c.answer_at.ensures ∙ value-single binary64 (grid_of binary64 c.args.axis_count c.args.counts c.args.axes.now c.args.vals.now c.args.mode) c.args.x
+    (sym c.new.ensures.value ∙ c.in_ok-new.was)) in
     record {
       result_value = every.0;
       says = every.1.0;

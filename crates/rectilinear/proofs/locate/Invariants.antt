@@ -1,24 +1,15 @@
 -- `locate`: each turn keeps one place more.
-use Prim.Native.Nat.{◌≤◌, ◌-◌}
-use mathlib.Core.Path.{◌≡◌}
-use lib.ListN.{length, take}
+use Prim.Native.Nat.{ℕ}
 use lib.Ieee.{binary64}
-use Rattle.multicubic.specs.Grid.{sum}
 use Rattle.grid.specs.Query.{at}
 use Rattle.grid.proofs.Locating.{Placing}
 use Rattle.rectilinear_query.specs.Grid.{axes_in}
-use Rattle.rectilinear_query.specs.Internal.{Taken}
+use Rattle.rectilinear_query.proofs.Taking.{InHand}
 use Rattle.rectilinear.proofs.locate.Given as goal
 
 abbrev pub invariant-loop-i : goal.invariant-loop-i
-invariant-loop-i l = (l.i ≤ l.axis_count)
-    × (l.axis_count ≤ 4)
-    × (length l.counts ≡ 4)
-    × (length l.x ≡ 4)
-    × (length l.places ≡ 4)
-    × Taken l.axis_count l.counts l.axes
-    × (l.start ≡ sum (take l.i l.counts))
-    × Placing (axes_in binary64 l.mode l.axis_count l.counts l.axes) (at l.x) l.i l.places
-
-abbrev pub decreases-loop-i : goal.decreases-loop-i
-decreases-loop-i l = l.axis_count - l.i
+invariant-loop-i l = record {
+  values : ℕ;
+  hand : InHand l.axis_count l.counts l.axes values l.i l.start;
+  placing : Placing (axes_in binary64 l.mode l.axis_count l.counts l.axes) (at l.x) l.i l.places;
+}

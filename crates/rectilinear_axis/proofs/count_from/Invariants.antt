@@ -1,11 +1,8 @@
 -- `count_from`: n is the lesser of lo + k and the count; at the end that is the count.
-use Prim.Native.Nat.{◌+◌, ◌-◌, ◌≤◌}
+use Prim.Native.Nat.{◌+◌}
 use Rattle.rectilinear_axis.specs.Place.{count_below}
 use Rattle.rectilinear_axis.proofs.Search.{Least}
 use Rattle.rectilinear_axis.proofs.count_from.Given as goal
 
 abbrev pub invariant-loop-k : goal.invariant-loop-k
-invariant-loop-k l = (l.k ≤ l.size) × Least l.n (l.lo + l.k) (count_below l.v l.grid)
-
-abbrev pub decreases-loop-k : goal.decreases-loop-k
-decreases-loop-k l = l.size - l.k
+invariant-loop-k g l = Least l.n (l.lo + l.k) (count_below (g.T.Float.float l.v) (g.T.Real.floats l.grid))

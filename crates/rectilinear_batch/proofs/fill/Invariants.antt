@@ -1,19 +1,8 @@
 -- `fill`: each turn puts one answer more, or meets the refusal.
-use Prim.Native.Nat.{◌*◌, ◌≤◌, ◌-◌}
-use mathlib.Core.Path.{◌≡◌}
-use lib.ListN.{length}
 use lib.Ieee.{binary64}
 use Rattle.grid.proofs.Running.{Filling}
 use Rattle.rectilinear_query.specs.Grid.{axes_in}
 use Rattle.rectilinear_batch.proofs.fill.Given as goal
 
 abbrev pub invariant-loop-i : goal.invariant-loop-i
-invariant-loop-i l =
-    (l.i ≤ l.count)
-    × (l.count ≡ length l.initial.out)
-    × (length l.out ≡ l.count)
-    × (length l.queries ≡ l.axis_count * l.count)
-    × Filling binary64 (axes_in binary64 l.mode l.axis_count l.counts l.axes) l.vals l.queries l.quantity l.count l.initial.out l.i l.out
-
-abbrev pub decreases-loop-i : goal.decreases-loop-i
-decreases-loop-i l = l.count - l.i
+invariant-loop-i l = Filling binary64 (axes_in binary64 l.mode l.axis_count l.counts l.axes) l.vals l.queries l.quantity l.count l.initial.out l.i l.out

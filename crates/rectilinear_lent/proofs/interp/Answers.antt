@@ -1,19 +1,10 @@
--- Values: a refused grid leaves the buffer as it was, another fills it.
-use mathlib.Core.Path.{◌∙◌}
+-- A refused grid leaves the buffer as it was.
 use lib.Ieee.{binary64}
-use Rattle.grid.specs.Batch.{interp_outcome, interp_buffer}
-use Rattle.slices.proofs.Lent.{whole, refused-interp}
+use Rattle.slices.proofs.Lent.{refused-interp}
 use Rattle.rectilinear_query.specs.Grid.{grid_of}
 use Rattle.rectilinear_lent.proofs.interp.Goals as goal
 
-pub returns-in-Refused : goal.returns-in-Refused
-returns-in-Refused c =
+pub returns-in-Err : goal.returns-in-Err
+returns-in-Err c =
     let a = c.args in
-    refused-interp (grid_of binary64 a.axis_count a.counts a.axes.now a.vals.now a.mode) c.new.ensures c.in-Refused.is binary64 a.queries.now a.out.now
-
-pub returns-in-Accepted : goal.returns-in-Accepted
-returns-in-Accepted c =
-    let a = c.args in
-    let grid = whole (grid_of binary64 a.axis_count a.counts a.axes.now a.vals.now a.mode) c.in-Accepted.is in
-    let called = c.interp.ensures in
-    (called.value ∙ (λ i. interp_outcome binary64 (grid i) a.queries.now a.out.now), called.out_after ∙ (λ i. interp_buffer binary64 (grid i) a.queries.now a.out.now))
+    refused-interp (grid_of binary64 a.axis_count a.counts a.axes.now a.vals.now a.mode) c.new.ensures c.in-Err.is binary64 a.queries.now a.out.now

@@ -1,19 +1,10 @@
--- Gradients: a refused grid leaves the buffer as it was, another fills it.
-use mathlib.Core.Path.{◌∙◌}
+-- A refused grid leaves the buffer as it was.
 use lib.Ieee.{binary64}
-use Rattle.grid.specs.Batch.{grad_outcome, grad_buffer}
-use Rattle.slices.proofs.Lent.{whole, refused-interp-grad}
+use Rattle.slices.proofs.Lent.{refused-interp-grad}
 use Rattle.rectilinear_query.specs.Grid.{grid_of}
 use Rattle.rectilinear_lent.proofs.interp_grad.Goals as goal
 
-pub returns-in-Refused : goal.returns-in-Refused
-returns-in-Refused c =
+pub returns-in-Err : goal.returns-in-Err
+returns-in-Err c =
     let a = c.args in
-    refused-interp-grad (grid_of binary64 a.axis_count a.counts a.axes.now a.vals.now a.mode) c.new.ensures c.in-Refused.is binary64 a.queries.now a.out.now
-
-pub returns-in-Accepted : goal.returns-in-Accepted
-returns-in-Accepted c =
-    let a = c.args in
-    let grid = whole (grid_of binary64 a.axis_count a.counts a.axes.now a.vals.now a.mode) c.in-Accepted.is in
-    let called = c.interp_grad.ensures in
-    (called.value ∙ (λ i. grad_outcome binary64 (grid i) a.queries.now a.out.now), called.out_after ∙ (λ i. grad_buffer binary64 (grid i) a.queries.now a.out.now))
+    refused-interp-grad (grid_of binary64 a.axis_count a.counts a.axes.now a.vals.now a.mode) c.new.ensures c.in-Err.is binary64 a.queries.now a.out.now

@@ -1,11 +1,7 @@
--- `disordered`: every pair of neighbours before i rises; the first that does not is the disorder.
-use Prim.Native.Nat.{ℕ, suc, ◌-◌, ◌≤◌, ◌<◌}
-use lib.ListN.{length}
+-- `disordered`: every pair of neighbours before i is in order; the first that is not is the disorder.
+use Prim.Native.Nat.{ℕ, suc, ◌<◌}
 use Rattle.rectilinear_order.proofs.Order.{Up}
 use Rattle.rectilinear_order.proofs.disordered.Given as goal
 
 abbrev pub invariant-loop-i : goal.invariant-loop-i
-invariant-loop-i l = (1 ≤ l.i) × (l.i ≤ length l.grid) × ((k : ℕ) → suc k < l.i → Up l.grid k)
-
-abbrev pub decreases-loop-i : goal.decreases-loop-i
-decreases-loop-i l = length l.grid - l.i
+invariant-loop-i g l = (k : ℕ) → suc k < l.i → Up (g.T.Real.floats l.grid) k

@@ -1,28 +1,31 @@
--- `not_steep`: every pair of neighbours before place next rises strictly; the first that does not is the fault.
+-- `not_steep`: every pair of neighbours before `next` rises strictly; the first that does not is the fault.
 use mathlib.Core.Path.{sym}
 use Prim.Native.Nat.{◌-◌}
 use native.Mathlib.Omega.{arith}
 use lib.Ieee.{lt}
+use Rattle.interp_math.proofs.Lists.{float_at, floats_length}
+use Rattle.interp_math.proofs.Comparing.{below}
 use Rattle.rectilinear_order.proofs.Order.{one_more, fault-at, slack, steep}
 use Rattle.rectilinear_order.proofs.not_steep.Goals as goal
 
-pub loop-next-init : goal.loop-next-init
-loop-next-init c = (omega arith, omega arith, λ k h. absurd (omega arith))
-
 pub loop-next-preserved : goal.loop-next-preserved
-loop-next-preserved c =
-    let l = c.loop-next in
-    let g = c.args.grid.now in
-    (omega arith, omega arith, one_more lt g l.next (omega arith) l.invariant.2 c.if-before-entry.true)
+loop-next-preserved g c =
+    let grid = c.args.grid.now in
+    let at = c.loop-next.next in
+    let entry = float_at g.met.T.Real.floats_law grid in
+    let in_order = below _ g.met.T.Float.float_order_law _ _ (sym (entry (at - 1) _ (omega arith) c.index-grid-next.is)) (sym (entry at _ (omega arith) c.index-grid-next-in-loop-next.is)) c.lt.ensures c.if-not-lt.false in
+    one_more lt (g.T.Real.floats grid) at (omega arith) c.loop-next.invariant in_order
 
-pub returns-else-before-entry : goal.returns-else-before-entry
-returns-else-before-entry c =
-    let l = c.loop-next in
-    let g = c.args.grid.now in
-    sym (fault-at lt g _ (slack g) l.next (omega arith) (omega arith) c.if-before-entry.false)
+pub returns-then-not-lt : goal.returns-then-not-lt
+returns-then-not-lt g c =
+    let grid = c.args.grid.now in
+    let at = c.loop-next.next in
+    let entry = float_at g.met.T.Real.floats_law grid in
+    let out_of_order = below _ g.met.T.Float.float_order_law _ _ (sym (entry (at - 1) _ (omega arith) c.index-grid-next.is)) (sym (entry at _ (omega arith) c.index-grid-next-in-loop-next.is)) c.lt.ensures c.if-not-lt.true in
+    sym (fault-at lt (g.T.Real.floats grid) _ (slack (g.T.Real.floats grid)) at (omega arith) (omega (arith, floats_length g.met.T.Real.floats_law grid)) out_of_order)
 
 pub returns : goal.returns
-returns c =
-    let l = c.loop-next in
-    let g = c.args.grid.now in
-    sym (steep g (omega arith) (λ k h. l.invariant.2 k (omega arith)))
+returns g c =
+    let grid = c.args.grid.now in
+    let long = floats_length g.met.T.Real.floats_law grid in
+    sym (steep (g.T.Real.floats grid) (omega (arith, long)) (λ k h. c.loop-next.invariant k (omega (arith, long))))

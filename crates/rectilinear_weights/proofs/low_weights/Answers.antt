@@ -1,15 +1,55 @@
 -- `low_weights`: the straight line, or the cubic end from the basis.
-use mathlib.Core.Path.{refl}
-use lib.Ieee.{of_bits}
+use native.Mathlib.Omega.{arith}
 use Rattle.rectilinear_weights.specs.Weights.{straight_low}
+use Rattle.interp_math.proofs.Lists.{float_get}
 use Rattle.rectilinear_weights.proofs.low_weights.Goals as goal
 
 pub returns-then-linearize_extrapolation : goal.returns-then-linearize_extrapolation
-unfolding straight_low of_bits
-returns-then-linearize_extrapolation c = rw (c.if-linearize_extrapolation.true, c.centered_difference_weights-k0.ensures) refl
+unfolding straight_low
+returns-then-linearize_extrapolation g c =
+    let add = g.met.T.Float.float_add_law in
+    let sub = g.met.T.Float.float_sub_law in
+    let mul = g.met.T.Float.float_mul_law in
+    let div = g.met.T.Float.float_div_law in
+    let neg = g.met.T.Float.float_neg_law in
+    let get = float_get g.met.T.Real.floats_law in
+    simp (
+      c.if-linearize_extrapolation.true,
+      ← g.met.T.Real.floats_law,
+      add _ _ _ c.add.ensures,
+      mul _ _ _ c.mul.ensures,
+      add _ _ _ c.add-then-linearize_extrapolation.ensures,
+      mul _ _ _ c.mul-then-linearize_extrapolation.ensures,
+      add _ _ _ c.add-then-linearize_extrapolation-2.ensures,
+      mul _ _ _ c.mul-then-linearize_extrapolation-2.ensures,
+      sub _ _ _ c.sub-s.ensures,
+      ← get c.centered_difference_weights-k0.result 0 c.index-k0-0.result (omega arith),
+      ← get c.centered_difference_weights-k0.result 1 c.index-k0-1.result (omega arith),
+      ← get c.centered_difference_weights-k0.result 2 c.index-k0-2.result (omega arith),
+      c.centered_difference_weights-k0.ensures,
+      div _ _ _ c.div-t.ensures,
+      neg _ _ c.neg.ensures,
+      neg _ _ c.neg-then-linearize_extrapolation.ensures,
+      div _ _ _ c.div.ensures,
+      add _ _ _ c.add-two.ensures,
+      c.one-one.ensures,
+      c.zero.ensures,
+      g.met.T.Float.float_one_law,
+      g.met.T.Float.float_zero_law,
+    )
 
 pub returns-else-linearize_extrapolation : goal.returns-else-linearize_extrapolation
-unfolding of_bits
-returns-else-linearize_extrapolation c =
-    let d = c in
-    rw (d.if-linearize_extrapolation.false, c.cubic_low.ensures, c.hermite_basis.ensures, d.centered_difference_weights-k0.ensures) refl
+returns-else-linearize_extrapolation g c =
+    let div = g.met.T.Float.float_div_law in
+    let neg = g.met.T.Float.float_neg_law in
+    simp (
+      c.if-linearize_extrapolation.false,
+      c.cubic_low.ensures,
+      c.hermite_basis.ensures,
+      c.centered_difference_weights-k0.ensures,
+      div _ _ _ c.div-t.ensures,
+      neg _ _ c.neg.ensures,
+      div _ _ _ c.div.ensures,
+      c.one-one.ensures,
+      g.met.T.Float.float_one_law,
+    )

@@ -1,48 +1,10 @@
--- `find_gradient`: the grid's refusal, or the gradient that its axes give.
+-- `find_gradient`: a grid that is taken has strides.
 use mathlib.Core.Path.{sym, ◌∙◌}
 use lib.ListN.{length}
-use lib.Ieee.{binary64, of_bits}
-use Rattle.multicubic.proofs.Said.{both_say}
-use Rattle.grid.proofs.Singles.{gradient-refused, gradient-single}
-use Rattle.regular_query.specs.Grid.{grid_of}
-use Rattle.regular_query.proofs.Locating.{spaceable, ready_by}
+use Rattle.regular_query.proofs.Locating.{spaceable}
 use Rattle.regular.proofs.find_gradient.Goals as goal
 
 pub strides-requires : goal.strides-requires
 strides-requires c =
-    let a = c.args in
-    let every = spaceable a.axis_count a.axes (length a.vals.now) (sym c.new-checked.ensures.value ∙ c.in-Accepted.is) _ c.counts_of.ensures in
-    record {
-      n_bound = every.0;
-      counts_value = every.1;
-    }
-
-pub gradient_at-requires : goal.gradient_at-requires
-gradient_at-requires c =
-    let a = c.args in
-    ready_by a.axis_count a.axes (length a.vals.now)
-    (sym c.new-checked.ensures.value ∙ c.in-Accepted.is) _ c.counts_of.ensures _ c.strides.ensures
-
-pub returns-in-Refused : goal.returns-in-Refused
-unfolding of_bits
-returns-in-Refused c =
-    let a = c.args in
-    let w = gradient-refused binary64 (grid_of binary64 a.axis_count a.axes a.vals.now a.mode) a.x _ _ _ (sym c.new-checked.ensures.value ∙ c.in-Refused.is) in
-    let every = both_say (c.new-checked.ensures.value ∙ w.0, w.1) in
-    record {
-      outcome_value = every.0;
-      gradient_value = every.1.0;
-      says = every.1.1;
-    }
-
-pub returns-in-Accepted : goal.returns-in-Accepted
-returns-in-Accepted c =
-    let a = c.args in
-    let w = c.gradient_at.ensures in
-    let every = both_say (gradient-single binary64 (grid_of binary64 a.axis_count a.axes a.vals.now a.mode) a.x _ _
-    (sym c.new-checked.ensures.value ∙ c.in-Accepted.is) w.outcome_value w.gradient_value) in
-    record {
-      outcome_value = every.0;
-      gradient_value = every.1.0;
-      says = every.1.1;
-    }
+    let every = spaceable c.args.axis_count c.args.axes (length c.args.vals.now) (sym c.new.ensures.value ∙ c.in-Ok.is) _ c.counts_of.ensures in
+    record { n_bound = every.0; counts_value = every.1 }

@@ -1,53 +1,25 @@
--- `find_value`: the grid's refusal, or what is asked of the only query of its batch.
+-- `find_value`: a grid that is taken has strides, and is asked of the only query of its batch.
 use mathlib.Core.Path.{sym, ◌∙◌}
 use native.Mathlib.Omega.{arith}
 use lib.ListN.{length}
 use lib.Ieee.{binary64}
-use Rattle.grid.proofs.Singles.{value-refused, value-single, value-says}
+use Rattle.grid.proofs.Singles.{value-single, value-says}
 use Rattle.regular_query.specs.Grid.{grid_of}
-use Rattle.regular_query.proofs.Locating.{spaceable, ready_by}
+use Rattle.regular_query.proofs.Locating.{spaceable}
 use Rattle.regular.proofs.find_value.Goals as goal
 
 pub strides-requires : goal.strides-requires
 strides-requires c =
-    let a = c.args in
-    let every = spaceable a.axis_count a.axes (length a.vals.now) (sym c.new-checked.ensures.value ∙ c.in-Accepted.is) _ c.counts_of.ensures in
-    record {
-      n_bound = every.0;
-      counts_value = every.1;
-    }
+    let every = spaceable c.args.axis_count c.args.axes (length c.args.vals.now) (sym c.new.ensures.value ∙ c.in_ok-new.was) _ c.counts_of.ensures in
+    record { n_bound = every.0; counts_value = every.1 }
 
-pub answer_at-requires : goal.answer_at-requires
-answer_at-requires c =
-    let a = c.args in
-    let taken = sym c.new-checked.ensures.value ∙ c.in-Accepted.is in
-    let few = (spaceable a.axis_count a.axes (length a.vals.now) taken _ c.counts_of.ensures).0 in
-    record {
-      ready = ready_by a.axis_count a.axes (length a.vals.now) taken _ c.counts_of.ensures _ c.strides.ensures;
-      i_lt_count = (omega arith, omega arith);
-      asked = tt;
-    }
+pub answer_at-requires-clause-i_lt_count : goal.answer_at-requires-clause-i_lt_count
+answer_at-requires-clause-i_lt_count c =
+    let few = (spaceable c.args.axis_count c.args.axes (length c.args.vals.now) (sym c.new.ensures.value ∙ c.in_ok-new.was) _ c.counts_of.ensures).0 in
+    (omega arith, omega arith)
 
-pub returns-in-Refused : goal.returns-in-Refused
-returns-in-Refused c =
+pub returns-clause-says : goal.returns-clause-says
+returns-clause-says c =
     let a = c.args in
-    let every = value-says binary64 (grid_of binary64 a.axis_count a.axes a.vals.now a.mode) a.x
-    (c.answered.ensures ∙ value-refused binary64 (grid_of binary64 a.axis_count a.axes a.vals.now a.mode) a.x _ _
-    c.new-checked.ensures.value c.in-Refused.is) in
-    record {
-      result_value = every.0;
-      says = every.1.0;
-      result_value_2 = every.1.1;
-    }
-
-pub returns-in-Accepted : goal.returns-in-Accepted
-returns-in-Accepted c =
-    let a = c.args in
-    let every = value-says binary64 (grid_of binary64 a.axis_count a.axes a.vals.now a.mode) a.x
-    (c.answer_at.ensures ∙ value-single binary64 (grid_of binary64 a.axis_count a.axes a.vals.now a.mode) a.x
-    (sym c.new-checked.ensures.value ∙ c.in-Accepted.is)) in
-    record {
-      result_value = every.0;
-      says = every.1.0;
-      result_value_2 = every.1.1;
-    }
+    let g = grid_of binary64 a.axis_count a.axes a.vals.now a.mode in
+    (value-says binary64 g a.x (c.answer_at.ensures ∙ value-single binary64 g a.x (sym c.new.ensures.value ∙ c.in_ok-new.was))).1.0

@@ -1,60 +1,28 @@
 -- `gradient_at`: each turn adds a component, or meets the query's refusal.
-use Prim.Native.Nat.{◌-◌}
-use mathlib.Core.Path.{◌∙◌, refl, ap}
+use mathlib.Core.Path.{refl}
 use native.Mathlib.Omega.{arith}
 use lib.ListN.{length}
 use lib.Ieee.{binary64, of_bits}
-use Rattle.multicubic.specs.Same.{as_answer}
 use Rattle.grid.proofs.Fit.{Fit}
-use Rattle.grid.proofs.Singles.{grading_none, grading-turn, grading-refused, grading-done}
+use Rattle.grid.proofs.Singles.{grading_none, grading-turn, grading-done}
 use Rattle.regular_query.specs.Grid.{axes_in}
 use Rattle.regular_query.proofs.Locating.{taken_of, fit}
-use borrow.Author.Rules.{rules}
 use Rattle.regular.proofs.gradient_at.Goals as goal
 use Rattle.regular.proofs.gradient_at.Goals.{At-loop-d}
 
--- what holds at the loop's head: the grid's axes fit
-module _ (c : At-loop-d) where
-  fits : Fit c.args.axis_count (axes_in binary64 c.args.mode c.args.axis_count c.args.axes) (length c.args.vals.now)
-  fits = fit binary64 c.args.mode c.loop-d.invariant.2 (taken_of c.loop-d.invariant.4)
-
 pub loop-d-init : goal.loop-d-init
 unfolding of_bits
-loop-d-init c =
-    let s = c in
-    let four = s.well_formed.1.0.1.0.1 in
-    let f = fit binary64 s.args.mode four (taken_of s.requires) in
-    (search rules, f.few, four, s.well_formed.1.1.1.1.1.0.1.0.1, s.requires, grading_none _ _ _ _ _ refl)
+loop-d-init c = record { few = (fit binary64 c.args.mode c.well_formed.1.0.1.0.1 (taken_of c.requires)).few; grading = grading_none _ _ _ _ _ refl }
 
-pub answer_at-component-requires : goal.answer_at-component-requires
-answer_at-component-requires c =
-    let l = c in
-    record {
-      ready = l.loop-d.invariant.4;
-      i_lt_count = (omega arith, omega arith);
-      asked = c.loop-d-test.true;
-    }
-
-pub returns-in-Refused : goal.returns-in-Refused
-unfolding of_bits
-returns-in-Refused c =
-    let l = c in
-    let w = grading-refused (fits (goal.at.returns-in-Refused c).At-loop-d) l.loop-d.invariant.5 c.loop-d-test.true c.answer_at-component.ensures (ap as_answer c.in-Refused.is) in
-    record {
-      outcome_value = c.outcome_of.ensures ∙ w.0;
-      gradient_value = w.1;
-    }
+-- the grid's axes fit
+fits : (c : At-loop-d) → Fit c.args.axis_count (axes_in binary64 c.args.mode c.args.axis_count c.args.axes) (length c.args.vals.now)
+fits c = fit binary64 c.args.mode c.well_formed.1.0.1.0.1 (taken_of c.requires)
 
 pub loop-d-preserved : goal.loop-d-preserved
-loop-d-preserved c =
-    let l = c in
-    let next = grading-turn (fits (goal.at.loop-d-preserved c).At-loop-d) l.loop-d.invariant.5 c.loop-d-test.true c.answer_at-component.ensures (ap as_answer c.in-Value.is) in
-    (omega arith, l.loop-d.invariant.1, l.loop-d.invariant.2, l.loop-d.invariant.3, l.loop-d.invariant.4, next)
+loop-d-preserved c = record {
+  few = c.loop-d.invariant.few;
+  grading = grading-turn (fits (goal.at.loop-d-preserved c).At-loop-d) c.loop-d.invariant.grading c.loop-d-test.true c.answer_at-component.ensures c.in-Ok.is;
+}
 
-pub returns : goal.returns
-returns c =
-    let every = grading-done (fits (goal.at.returns c).At-loop-d) c.loop-d.invariant.5 (omega arith) in
-    record {
-      outcome_value = every.0;
-      gradient_value = every.1;
-    }
+pub returns-clause-gradient_value : goal.returns-clause-gradient_value
+returns-clause-gradient_value c = (grading-done (fits (goal.at.returns-clause-gradient_value c).At-loop-d) c.loop-d.invariant.grading (omega arith)).1

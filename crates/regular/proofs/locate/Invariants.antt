@@ -1,22 +1,13 @@
 -- `locate`: each turn keeps one place more.
-use Prim.Native.Nat.{◌≤◌, ◌-◌}
-use mathlib.Core.Path.{◌≡◌}
-use lib.ListN.{length}
+use Prim.Native.Nat.{◌≤◌}
 use lib.Ieee.{binary64}
 use Rattle.grid.specs.Query.{at}
 use Rattle.grid.proofs.Locating.{Placing}
 use Rattle.regular_query.specs.Grid.{axes_in}
-use Rattle.regular_query.specs.Internal.{Taken}
 use Rattle.regular.proofs.locate.Given as goal
 
 abbrev pub invariant-loop-i : goal.invariant-loop-i
-invariant-loop-i l = (l.i ≤ l.axis_count)
-    × (l.axis_count ≤ 4)
-    × (length l.axes ≡ 4)
-    × (length l.x ≡ 4)
-    × (length l.places ≡ 4)
-    × Taken l.axis_count l.axes
-    × Placing (axes_in binary64 l.mode l.axis_count l.axes) (at l.x) l.i l.places
-
-abbrev pub decreases-loop-i : goal.decreases-loop-i
-decreases-loop-i l = l.axis_count - l.i
+invariant-loop-i l = record {
+  few : l.axis_count ≤ 4;
+  placing : Placing (axes_in binary64 l.mode l.axis_count l.axes) (at l.x) l.i l.places;
+}

@@ -1,9 +1,39 @@
 -- `cubic_end`: operation by operation the definition.
-use Rattle.std.proofs.Common.{refl}
-use lib.Ieee.{of_bits}
+use native.Mathlib.Omega.{arith}
 use Rattle.regular_axis.specs.Weights.{cubic_end}
+use Rattle.interp_math.proofs.Lists.{float_get}
 use Rattle.regular_axis.proofs.cubic_end.Goals as goal
 
 pub returns : goal.returns
-unfolding cubic_end of_bits
-returns c = refl
+unfolding cubic_end
+returns g c =
+    let add = g.met.T.Float.float_add_law in
+    let sub = g.met.T.Float.float_sub_law in
+    let mul = g.met.T.Float.float_mul_law in
+    let div = g.met.T.Float.float_div_law in
+    let get = float_get g.met.T.Real.floats_law in
+    simp (
+      ← g.met.T.Real.floats_law,
+      add _ _ _ c.add-3.ensures,
+      add _ _ _ c.add.ensures,
+      div _ _ _ c.div.ensures,
+      mul _ _ _ c.mul.ensures,
+      add _ _ _ c.add-2.ensures,
+      div _ _ _ c.div-2.ensures,
+      sub _ _ _ c.sub.ensures,
+      mul _ _ _ c.mul-2.ensures,
+      div _ _ _ c.div-3.ensures,
+      sub _ _ _ c.sub-2.ensures,
+      add _ _ _ c.add-two.ensures,
+      ← get c.args.h 2 c.index-h-2.result (omega arith),
+      ← get c.args.h 1 c.index-h-1.result (omega arith),
+      ← get c.args.h 3 c.index-h-3.result (omega arith),
+      ← get c.args.h 0 c.index-h-0.result (omega arith),
+      ← get c.args.h 3 c.index-h-3-2.result (omega arith),
+      ← get c.args.h 3 c.index-h-3-3.result (omega arith),
+      ← get c.args.h 1 c.index-h-1-2.result (omega arith),
+      c.one-one.ensures,
+      c.zero.ensures,
+      g.met.T.Float.float_one_law,
+      g.met.T.Float.float_zero_law,
+    )

@@ -1,95 +1,52 @@
 -- `locate`: each turn keeps one place more.
-use Prim.Native.Nat.{ℕ, ◌≤◌, ◌<◌, ◌-◌}
-use mathlib.Core.Path.{◌≡◌, ◌∙◌, sym, ap, subst}
-use mathlib.Core.Bool.{Bool}
-use mathlib.Core.List.{List}
+use Prim.Native.Nat.{◌<◌}
+use mathlib.Core.Path.{◌≡◌, ◌∙◌, sym, ap}
 use native.Mathlib.Omega.{arith}
-use lib.ListN.{length, get_or, length-set}
-use lib.Ieee.{Float, nan, binary32}
-use Rattle.multicubic_f32.specs.declared.AxisF32.{AxisF32 as Axis}
-use Rattle.multicubic.specs.declared.EdgeMode.{EdgeMode}
-use Rattle.multicubic.specs.declared.Loc.{Loc}
-use Rattle.multicubic.specs.declared.PlaceAnswer.{PlaceAnswer}
-use Rattle.multicubic.specs.Answers.{place_outcome}
-use Rattle.multicubic.specs.Internal.{four_nowhere}
-use Rattle.multicubic.proofs.Numbers.{Unplaced}
+use lib.ListN.{length, get_or}
+use lib.Ieee.{nan, binary32}
+use Rattle.std.specs.Prelude.{Err}
 use Rattle.grid.specs.Query.{at, GridAxis}
-use Rattle.grid.specs.Internal.{Located, no_axis as no_grid_axis}
+use Rattle.grid.specs.Internal.{no_axis as no_grid_axis}
 use Rattle.grid.proofs.Edges.{own-loc}
-use Rattle.grid.proofs.Locating.{placing-none, placing-turn, placing-all, located-refused}
-use Rattle.regular_query_f32.specs.Internal.{Taken}
-use Rattle.regular_query_f32.proofs.Read.{grid_axis, axis_in, axes_in}
-use Rattle.regular_query_f32.proofs.Read.{no_axis}
-use Rattle.regular_query_f32.proofs.Read.{fit, long-at, spanned, axis-is}
-use borrow.Author.Rules.{rules}
+use Rattle.grid.proofs.Locating.{placing-none, placing-turn, located-refused}
+use Rattle.regular_query.specs.Grid.{axes_in}
+use Rattle.regular_query.proofs.Locating.{fit, spanned, axis-is}
+use Rattle.regular_query_f32.proofs.Taking.{line, placed-by, unplaced-by}
 use Rattle.regular_f32.proofs.locate.Goals as goal
-use Rattle.regular_f32.proofs.locate.Goals.{After-get_loc-loc, At-loop-i}
-
--- the axis in hand is the grid's
-abbrev line : List Axis → ℕ → Bool → GridAxis
-line axes i straight = grid_axis binary32 straight (get_or axes i no_axis)
-
-module _ (mode : EdgeMode) (n : ℕ) (axes : List Axis) (four : length axes ≡ 4) (taken : Taken n axes) (i : ℕ) (h : i < n) where
-  inside : i < length (axes_in binary32 mode n axes)
-  inside = rw (fit binary32 mode four taken).counted h
-
-  ends : (4 ≤ (get_or axes i no_axis).count) × ((get_or axes i no_axis).count ≤ 4096)
-  ends = spanned binary32 mode four taken i h
-
-  loc-is : (x : List Float) (l : Loc) → l ≡ (axis_in binary32 mode (get_or axes i no_axis)).loc (get_or x i nan)
-      → l ≡ (get_or (axes_in binary32 mode n axes) i no_grid_axis).loc (at x i)
-  loc-is x l e = e ∙ ap (λ (g : GridAxis). g.loc (get_or x i nan)) (axis-is binary32 mode four taken i h)
+use Rattle.regular_f32.proofs.locate.Goals.{After-place_at}
 
 pub loop-i-init : goal.loop-i-init
-loop-i-init c =
-    let s = c in
-    let e = c.nowhere-places.ensures in
-    let four = s.well_formed.1.0.1.0.1 in
-    (search rules, (fit binary32 s.args.mode four s.requires).few, four, s.well_formed.1.1.1.0.1.0.1, ap length e, s.requires, placing-none _ _ _ e)
+loop-i-init c = record { few = (fit binary32 c.args.mode c.well_formed.1.0.1.0.1 c.requires).few; placing = placing-none _ _ _ c.nowhere-places.ensures }
 
 pub replaced_at-replaced-requires : goal.replaced_at-replaced-requires
-replaced_at-replaced-requires c = ends c.args.mode c.args.axis_count c.args.axes c.loop-i.invariant.2 c.loop-i.invariant.5 c.loop-i.i c.loop-i-test.true
+replaced_at-replaced-requires c = spanned binary32 c.args.mode c.well_formed.1.0.1.0.1 c.requires c.loop-i.i c.loop-i-test.true
 
 pub hold-used-requires : goal.hold-used-requires
-hold-used-requires c = ends c.args.mode c.args.axis_count c.args.axes c.loop-i.invariant.2 c.loop-i.invariant.5 c.loop-i.i c.loop-i-test.true
+hold-used-requires c = spanned binary32 c.args.mode c.well_formed.1.0.1.0.1 c.requires c.loop-i.i c.loop-i-test.true
 
-pub get_loc-loc-requires : goal.get_loc-loc-requires
-get_loc-loc-requires c =
-    let l = c in
-    long-at binary32 l.args.mode l.loop-i.invariant.2 l.loop-i.invariant.5 l.loop-i.i c.loop-i-test.true
+pub get_loc-requires : goal.get_loc-requires
+get_loc-requires c = (spanned binary32 c.args.mode c.well_formed.1.0.1.0.1 c.requires c.loop-i.i c.loop-i-test.true).0
 
--- the place on the axis in hand has been asked for: it is what the grid's axis has, and where it is none the query has no places
-module _ (c : After-get_loc-loc) where
-  located : c.get_loc-loc.result ≡ (get_or (axes_in binary32 c.args.mode c.args.axis_count c.args.axes) c.loop-i.i no_grid_axis).loc (at c.args.x c.loop-i.i)
-  located =
-      loc-is c.args.mode c.args.axis_count c.args.axes c.loop-i.invariant.2 c.loop-i.invariant.5 c.loop-i.i c.loop-i-test.true c.args.x _
-      (own-loc c.args.mode (line c.args.axes c.loop-i.i) (get_or c.args.x c.loop-i.i nan) _ _
-      c.replaced_at-replaced.ensures c.hold-used.ensures _ c.get_loc-loc.ensures.value)
+-- the place on the axis in hand has been asked for: it is what the grid's axis has
+module _ (c : After-place_at) where
+  inside : c.loop-i.i < length (axes_in binary32 c.args.mode c.args.axis_count c.args.axes)
+  inside = rw (fit binary32 c.args.mode c.well_formed.1.0.1.0.1 c.requires).counted c.loop-i-test.true
 
-  refused : Unplaced c.get_loc-loc.result → (r : PlaceAnswer) → r.outcome ≡ place_outcome 0 c.loop-i.i c.get_loc-loc.result → r.places ≡ four_nowhere
-      → Located 0 (axes_in binary32 c.args.mode c.args.axis_count c.args.axes) (at c.args.x) r
-  refused u r o p =
-      located-refused (axes_in binary32 c.args.mode c.args.axis_count c.args.axes) _ c.loop-i.i c.loop-i.invariant.6.so_far
-      (inside c.args.mode c.args.axis_count c.args.axes c.loop-i.invariant.2 c.loop-i.invariant.5 c.loop-i.i c.loop-i-test.true) _ located u r.outcome r.places o p
+  found : c.get_loc.result ≡ (get_or (axes_in binary32 c.args.mode c.args.axis_count c.args.axes) c.loop-i.i no_grid_axis).loc (at c.args.x c.loop-i.i)
+  found =
+      own-loc c.args.mode (line c.args.axes c.loop-i.i) (get_or c.args.x c.loop-i.i nan) _ _ c.replaced_at-replaced.ensures c.hold-used.ensures _ c.get_loc.ensures.value
+      ∙ ap (λ (g : GridAxis). g.loc (get_or c.args.x c.loop-i.i nan)) (axis-is binary32 c.args.mode c.well_formed.1.0.1.0.1 c.requires c.loop-i.i c.loop-i-test.true)
 
-pub returns-in-NotANumber : goal.returns-in-NotANumber
-returns-in-NotANumber c =
-    refused (goal.at.returns-in-NotANumber c).After-get_loc-loc (subst Unplaced (sym c.in-NotANumber.is) tt) _
-    (c.unplaced.ensures.outcome_value ∙ c.place_outcome.ensures) c.unplaced.ensures.places_value
-
-pub returns-in-Unplaceable : goal.returns-in-Unplaceable
-returns-in-Unplaceable c =
-    refused (goal.at.returns-in-Unplaceable c).After-get_loc-loc (subst Unplaced (sym c.in-Unplaceable.is) tt) _
-    (c.unplaced-in-Unplaceable.ensures.outcome_value ∙ c.place_outcome-in-Unplaceable.ensures) c.unplaced-in-Unplaceable.ensures.places_value
+-- where it is none the query has no places
+pub returns-in-Err : goal.returns-in-Err
+returns-in-Err c =
+    let a = (goal.at.returns-in-Err c).After-place_at in
+    let u = unplaced-by 0 c.loop-i.i c.get_loc.result (sym c.in-Err.is ∙ c.place_at.ensures) in
+    located-refused (axes_in binary32 c.args.mode c.args.axis_count c.args.axes) _ c.loop-i.i c.loop-i.invariant.placing.so_far (inside a) u.0 (u.1 ∙ found a)
+    _ _ (c.unplaced.ensures.outcome_value ∙ ap Err u.2) c.unplaced.ensures.places_value
 
 pub loop-i-preserved : goal.loop-i-preserved
 loop-i-preserved c =
-    let found = sym c.in-At.is ∙ located (goal.at.loop-i-preserved c).After-get_loc-loc in
-    let next = placing-turn _ _ _ c.loop-i.i c.loop-i.invariant.6 (inside c.args.mode c.args.axis_count c.args.axes c.loop-i.invariant.2 c.loop-i.invariant.5 c.loop-i.i c.loop-i-test.true) (omega arith) _ found in
-    (omega arith, c.loop-i.invariant.1, c.loop-i.invariant.2, c.loop-i.invariant.3, rw length-set c.loop-i.invariant.4, c.loop-i.invariant.5, next)
-
-pub returns : goal.returns
-returns c =
-    let l = c in
-    let e : l.loop-i.i ≡ l.args.axis_count = omega arith in
-    placing-all _ _ _ l.loop-i.i l.loop-i.invariant.6 (e ∙ sym (fit binary32 l.args.mode l.loop-i.invariant.2 l.loop-i.invariant.5).counted) 0
+    let a = (goal.at.loop-i-preserved c).After-place_at in
+    let placed = placed-by 0 c.loop-i.i c.get_loc.result (sym c.in-Ok.is ∙ c.place_at.ensures) ∙ found a in
+    record { few = c.loop-i.invariant.few; placing = placing-turn _ _ _ c.loop-i.i c.loop-i.invariant.placing (inside a) (omega arith) _ placed }

@@ -5,21 +5,12 @@ use Rattle.guarantees.proofs.Owed.{promised_alone}
 use Rattle.regular_guarantees.proofs.Supplied.{supplied}
 use Rattle.regular_guarantees.proofs.alone.Goals as goal
 
-pub returns : goal.returns
-returns c =
-    let asked = c in
-    let vals = asked.shared_slice_known-1.given in
-    let other = asked.shared_slice_known-2-1.given in
-    let s = asked in
-    let a = s.args in
-    let x = s.well_formed.1.1.0 in
-    let every = promised_alone (supplied binary64 a.axis_count a.axes a.vals.now a.mode vals)
-    (supplied binary64 a.axis_count a.axes a.other_vals.now a.other_mode other)
+pub returns-clause-owed_alone : goal.returns-clause-owed_alone
+returns-clause-owed_alone c =
+    let a = c.args in
+    let x = c.well_formed.1.1.0 in
+    (promised_alone (supplied binary64 a.axis_count a.axes a.vals.now a.mode c.type_inv.vals)
+    (supplied binary64 a.axis_count a.axes a.other_vals.now a.other_mode c.type_inv.other_vals)
     (array_fits binary64 a.x x.0 x.1.1)
-    (asked.interp_one-value.ensures.answer_value, c.interp_one_grad-gradient.ensures.outcome_value, c.interp_one_grad-gradient.ensures.gradient_value)
-    (c.interp_one-other_value.ensures.answer_value, c.interp_one_grad-other_gradient.ensures.outcome_value, c.interp_one_grad-other_gradient.ensures.gradient_value) in
-    record {
-      owed_alone = every.0;
-      answers_of = every.1.0;
-      answers_of_2 = every.1.1;
-    }
+    (c.interp_one-value.ensures.answer_value, c.interp_one_grad-gradient.ensures.outcome_value, c.interp_one_grad-gradient.ensures.gradient_value)
+    (c.interp_one-other_value.ensures.answer_value, c.interp_one_grad-other_gradient.ensures.outcome_value, c.interp_one_grad-other_gradient.ensures.gradient_value)).0

@@ -7,14 +7,9 @@ use Rattle.guarantees.proofs.Nodes.{held-edge}
 use Rattle.regular_guarantees.proofs.Supplied.{supplied, clamped}
 use Rattle.regular_guarantees.proofs.held_edge.Goals as goal
 
-pub returns : goal.returns
-returns c =
-    let vals = c.shared_slice_known-1.given in
-    let s = c in
-    let a = s.args in
-    let x = s.well_formed.1.1.1.0 in
-    let answer = c.interp_one.ensures.answer_value in record {
-      held_edge = held-edge binary64 _ _ (supplied binary64 a.axis_count a.axes a.vals.now Held vals) (clamped binary64 a.axis_count a.axes a.vals.now)
-          (at a.x) (array_fits binary64 a.x x.0 x.1.1) _ answer;
-      answer_value = answer;
-    }
+pub returns-clause-held_edge : goal.returns-clause-held_edge
+returns-clause-held_edge c =
+    let a = c.args in
+    let x = c.well_formed.1.1.1.0 in
+    held-edge binary64 _ _ (supplied binary64 a.axis_count a.axes a.vals.now Held c.type_inv.vals) (clamped binary64 a.axis_count a.axes a.vals.now)
+    (at a.x) (array_fits binary64 a.x x.0 x.1.1) _ c.interp_one.ensures.answer_value

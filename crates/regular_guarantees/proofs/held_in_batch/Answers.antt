@@ -5,16 +5,8 @@ use Rattle.guarantees.proofs.Nodes.{held-in-batch}
 use Rattle.regular_guarantees.proofs.Supplied.{supplied, clamped}
 use Rattle.regular_guarantees.proofs.held_in_batch.Goals as goal
 
-pub returns : goal.returns
-returns c =
-    let called = c in
-    let vals = called in
-    let queries = vals in
-    let s = queries in
-    let a = s.args in
-    let e = called.interp.ensures in record {
-      held_in_batch = held-in-batch binary64 _ _ (supplied binary64 a.axis_count a.axes a.vals.now Held vals.shared_slice_known-2-1.given) (clamped binary64 a.axis_count a.axes a.vals.now)
-          a.queries.now a.out.now _ _ queries.shared_slice_known-1.given e.value e.out_after;
-      value = e.value;
-      out_after = e.out_after;
-    }
+pub returns-clause-held_in_batch : goal.returns-clause-held_in_batch
+returns-clause-held_in_batch c =
+    let a = c.args in
+    held-in-batch binary64 _ _ (supplied binary64 a.axis_count a.axes a.vals.now Held c.type_inv.vals) (clamped binary64 a.axis_count a.axes a.vals.now)
+    a.queries.now a.out.now _ _ c.type_inv.queries c.interp.ensures.value c.interp.ensures.out_after

@@ -4,26 +4,11 @@ use Rattle.guarantees.proofs.Owed.{promised_in_batch}
 use Rattle.regular_guarantees.proofs.Supplied.{supplied, counted}
 use Rattle.regular_guarantees.proofs.in_batch.Goals as goal
 
-pub returns : goal.returns
-returns c =
-    let last = c in
-    let third = last in
-    let second = third in
-    let first = second in
-    let others = first in
-    let vals = first in
-    let queries = vals in
-    let s = queries in
-    let a = s.args in
-    let every = promised_in_batch (supplied binary64 a.axis_count a.axes a.vals.now a.mode vals.shared_slice_known-2-1.given)
-    (supplied binary64 a.axis_count a.axes a.other_vals.now a.other_mode others.shared_slice_known-3-1.given)
-    (counted binary64 a.axis_count a.axes a.vals.now a.mode s.well_formed.1.0.1.0.1)
-    queries.shared_slice_known-1.given first.interp-outcome.ensures.value (first.interp-outcome.ensures.out_after, second.interp_grad.ensures.out_after)
-    third.interp-other_outcome.ensures.value (third.interp-other_outcome.ensures.out_after, last.interp_grad-2.ensures.out_after) in
-    record {
-      owed_in_batch = every.0;
-      outcome_value = every.1.0;
-      other_outcome_value = every.1.1.0;
-      buffers_of = every.1.1.1.0;
-      buffers_of_2 = every.1.1.1.1;
-    }
+pub returns-clause-owed_in_batch : goal.returns-clause-owed_in_batch
+returns-clause-owed_in_batch c =
+    let a = c.args in
+    (promised_in_batch (supplied binary64 a.axis_count a.axes a.vals.now a.mode c.type_inv.vals)
+    (supplied binary64 a.axis_count a.axes a.other_vals.now a.other_mode c.type_inv.other_vals)
+    (counted binary64 a.axis_count a.axes a.vals.now a.mode c.well_formed.1.0.1.0.1)
+    c.type_inv.queries c.interp-outcome.ensures.value (c.interp-outcome.ensures.out_after, c.interp_grad.ensures.out_after)
+    c.interp-other_outcome.ensures.value (c.interp-other_outcome.ensures.out_after, c.interp_grad-2.ensures.out_after)).0

@@ -5,11 +5,7 @@ use Rattle.grid.specs.Query.{at}
 use Rattle.regular_guarantees.proofs.Supplied.{at_nodes}
 use Rattle.regular_guarantees.proofs.unmarked_at_node.Goals as goal
 
-pub returns : goal.returns
-returns c =
+pub returns-clause-unmarked_at_node : goal.returns-clause-unmarked_at_node
+returns-clause-unmarked_at_node c =
     let a = c.args in
-    let marks = c.interp_one.ensures.marks_value in
-    record {
-      unmarked_at_node = λ node taken premises here. marks ∙ at_nodes binary64 a.axis_count a.axes a.vals.now a.mode (at a.x) node taken premises here;
-      marks_value = marks;
-    }
+    λ node taken premises here. c.interp_one.ensures.marks_value ∙ at_nodes binary64 a.axis_count a.axes a.vals.now a.mode (at a.x) node taken premises here

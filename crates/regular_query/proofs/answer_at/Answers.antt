@@ -1,177 +1,126 @@
 -- `answer_at`: each turn puts one axis more into the pass, and the reduction over all of them gives what is asked.
-use mathlib.Core.Path.{◌≡◌, refl, sym, ap, ◌∙◌, subst}
-use mathlib.Core.Bool.{Bool}
+use mathlib.Core.Path.{◌≡◌, refl, sym, ap, ◌∙◌}
+use Rattle.std.proofs.Common.{rules}
 use mathlib.Core.List.{List}
-use Prim.Native.Nat.{ℕ, ◌+◌, ◌-◌, ◌*◌, ◌≤◌, ◌<◌}
+use Prim.Native.Nat.{ℕ, ◌+◌, ◌*◌, ◌≤◌, ◌<◌}
 use native.Mathlib.Omega.{arith}
 use lib.ListN.{length, get_or}
-use lib.Ieee.{Float, nan, binary64, of_bits}
-use Rattle.ieee.specs.Numbers.{zero as nought}
-use Rattle.multicubic.specs.declared.Axis.{Axis}
-use Rattle.multicubic.specs.declared.EdgeMode.{EdgeMode}
-use Rattle.multicubic.specs.declared.Loc.TheVariants.{At}
-use Rattle.multicubic.specs.declared.Outcome.{Outcome}
-use Rattle.multicubic.specs.Answers.{answered, place_outcome}
-use Rattle.multicubic.specs.Place.{straight_of, Placed}
-use Rattle.multicubic.proofs.Numbers.{Unplaced}
+use lib.Ieee.{nan, binary64}
+use Rattle.std.specs.Prelude.{Ok, Err}
+use Rattle.multicubic.specs.declared.Place.{Place}
+use Rattle.multicubic.specs.Types.{Answer, Loc}
+use Rattle.multicubic.specs.Place.{Placed}
 use Rattle.reduction.specs.Value.{strides_of, offset, shifted}
 use Rattle.reduction.specs.Internal.{Reads}
-use Rattle.grid.specs.Query.{GridAxis, counts_of, Found, places, origins_of}
+use Rattle.grid.specs.Query.{counts_of, places, origins_of}
 use Rattle.grid.specs.Batch.{found_at}
-use Rattle.grid.specs.Internal.{row_at, answer_to, no_axis as no_grid_axis}
-use Rattle.grid.proofs.Edges.{own-loc, own_row}
-use Rattle.grid.proofs.Fit.{Fit}
+use Rattle.grid.specs.Internal.{row_at}
 use Rattle.grid.proofs.Answering.{turn_none, turn-room, turn-refused, turn_small, turn-next, turn-read, turn-reach, turn-value}
-use Rattle.regular_query.specs.Internal.{Ready}
-use Rattle.regular_query.specs.Grid.{grid_axis, axis_in, axes_in}
-use Rattle.regular_query.proofs.Calls.{no_axis}
-use Rattle.regular_query.proofs.Locating.{taken_of, fit, spaced-by, long-at, spanned, axis-is, origin-below}
+use Rattle.regular_query.specs.Grid.{axes_in}
+use Rattle.regular_query.proofs.Taking.{placed-by, unplaced-by, own, Taking, fits, spaced, ends, same, low, located, weighed}
 use Rattle.regular_query.proofs.answer_at.Goals as goal
-use Rattle.regular_query.proofs.answer_at.Goals.{After-get_loc-loc, After-row_at, At-loop-axis}
-
--- the grid's axes fit
-fits : (mode : EdgeMode) {n : ℕ} {axes : List Axis} {values : ℕ} {strides : List ℕ} → length axes ≡ 4 → Ready n axes values strides → Fit n (axes_in binary64 mode n axes) values
-fits mode four ready = fit binary64 mode four (taken_of ready)
-
--- the axis in hand, on either line and in the grid's setting
-abbrev line : List Axis → ℕ → Bool → GridAxis
-line axes axis straight = grid_axis binary64 straight (get_or axes axis no_axis)
-
-abbrev own : EdgeMode → List Axis → ℕ → GridAxis
-own mode axes axis = axis_in binary64 mode (get_or axes axis no_axis)
-
--- it is the grid's
-same : (mode : EdgeMode) {n : ℕ} {axes : List Axis} {values : ℕ} {strides : List ℕ} → length axes ≡ 4 → Ready n axes values strides → (axis : ℕ) → axis < n
-    → own mode axes axis ≡ get_or (axes_in binary64 mode n axes) axis no_grid_axis
-same mode four ready axis h = axis-is binary64 mode four (taken_of ready) axis h
+use Rattle.regular_query.proofs.answer_at.Goals.{After-place_at, At-loop-axis}
 
 pub loop-axis-init : goal.loop-axis-init
 loop-axis-init c =
-    let s = c in
-    let four = s.well_formed.1.0.1.0.1 in
-    let ready = s.requires.ready in
-    let f = fit binary64 s.args.mode four (taken_of ready) in
-    let spaced = spaced-by binary64 s.args.mode four (taken_of ready) s.args.strides ready.spaced in
-    (omega arith, f.few, four, ready, c.linearize_extrapolation-straight.ensures, turn_none _ _ _ _ _ _ _ _ s.requires.i_lt_count.0 s.requires.i_lt_count.1 s.requires.asked s.well_formed.1.1.1.1.0.1.0.1 spaced refl)
+    let t : Taking c.args.mode c.args.axis_count c.args.axes (length c.args.vals.now) c.args.strides c.linearize_extrapolation-straight.result =
+    record { four = c.well_formed.1.0.1.0.1; ready = c.requires.ready; lined = c.linearize_extrapolation-straight.ensures } in
+    record {
+      few = (fits t).few;
+      taking = t;
+      turn = turn_none _ _ _ _ _ _ _ _ c.requires.i_lt_count.0 c.requires.i_lt_count.1 c.requires.asked c.well_formed.1.1.1.1.0.1.0.1 (spaced t) refl;
+    }
 
 pub offset_bounds-queries-at : goal.offset_bounds-queries-at
-offset_bounds-queries-at c = omega (arith, turn-room (fits c.args.mode c.loop-axis.invariant.2 c.loop-axis.invariant.3) c.loop-axis.invariant.5 c.loop-axis-test.true, c.well_formed)
+offset_bounds-queries-at c = omega (arith, turn-room (fits c.loop-axis.invariant.taking) c.loop-axis.invariant.turn c.loop-axis-test.true, c.well_formed)
 
 pub bounds-queries-at : goal.bounds-queries-at
-bounds-queries-at c = omega (arith, turn-room (fits c.args.mode c.loop-axis.invariant.2 c.loop-axis.invariant.3) c.loop-axis.invariant.5 c.loop-axis-test.true)
-
--- the ends' nodes can be had
-ends : (l : At-loop-axis) (h : l.loop-axis.axis < l.args.axis_count) → (4 ≤ (get_or l.args.axes l.loop-axis.axis no_axis).count) × ((get_or l.args.axes l.loop-axis.axis no_axis).count ≤ 4096)
-ends l h = spanned binary64 l.args.mode l.loop-axis.invariant.2 (taken_of l.loop-axis.invariant.3) l.loop-axis.axis h
+bounds-queries-at c = omega (arith, turn-room (fits c.loop-axis.invariant.taking) c.loop-axis.invariant.turn c.loop-axis-test.true)
 
 pub replaced_at-replaced-requires : goal.replaced_at-replaced-requires
-replaced_at-replaced-requires c = ends (goal.at.replaced_at-replaced-requires c).At-loop-axis c.loop-axis-test.true
+replaced_at-replaced-requires c = ends c.loop-axis.invariant.taking c.loop-axis-test.true
 
 pub hold-used-requires : goal.hold-used-requires
-hold-used-requires c = ends (goal.at.hold-used-requires c).At-loop-axis c.loop-axis-test.true
+hold-used-requires c = ends c.loop-axis.invariant.taking c.loop-axis-test.true
 
-pub get_loc-loc-requires : goal.get_loc-loc-requires
-get_loc-loc-requires c =
-    long-at binary64 c.args.mode c.loop-axis.invariant.2 (taken_of c.loop-axis.invariant.3) c.loop-axis.axis c.loop-axis-test.true
+pub get_loc-requires : goal.get_loc-requires
+get_loc-requires c = (ends c.loop-axis.invariant.taking c.loop-axis-test.true).0
 
--- the place on the axis in hand has been asked for: it is what the grid's axis has, and where it is none, that is the query's answer
-module _ (c : After-get_loc-loc) where
-  located : c.get_loc-loc.result ≡ (own c.args.mode c.args.axes c.loop-axis.axis).loc (get_or c.args.queries.now c.loop-axis.at nan)
-  located =
-      own-loc c.args.mode (line c.args.axes c.loop-axis.axis) (get_or c.args.queries.now c.loop-axis.at nan) _ _
-      c.replaced_at-replaced.ensures c.hold-used.ensures _ c.get_loc-loc.ensures.value
+-- the place on the axis in hand has been asked for: it is what the grid's axis has
+found : (c : After-place_at) → c.get_loc.result ≡ (own c.args.mode c.args.axes c.loop-axis.axis).loc (get_or c.args.queries.now c.loop-axis.at nan)
+found c = located c.loop-axis.invariant.taking c.loop-axis-test.true _ _ _ c.replaced_at-replaced.ensures c.hold-used.ensures _ c.get_loc.ensures.value
 
-  refused : Unplaced c.get_loc-loc.result → (o : Outcome) → o ≡ place_outcome c.args.i c.loop-axis.axis c.get_loc-loc.result
-      → answered o nought ≡ answer_to binary64 (axes_in binary64 c.args.mode c.args.axis_count c.args.axes) c.args.vals.now c.args.quantity c.args.i
-      (found_at (axes_in binary64 c.args.mode c.args.axis_count c.args.axes) c.args.count c.args.queries.now c.args.i)
-  refused u o e =
-      ap (λ (p : Outcome). answered p nought) e
-      ∙ turn-refused (fits c.args.mode c.loop-axis.invariant.2 c.loop-axis.invariant.3) c.loop-axis.invariant.5 c.loop-axis-test.true (own c.args.mode c.args.axes c.loop-axis.axis)
-      (same c.args.mode c.loop-axis.invariant.2 c.loop-axis.invariant.3 c.loop-axis.axis c.loop-axis-test.true) binary64 c.args.vals.now _ located u
-
-pub returns-in-NotANumber : goal.returns-in-NotANumber
-unfolding of_bits
-returns-in-NotANumber c =
-    c.answered.ensures
-    ∙ refused (goal.at.returns-in-NotANumber c).After-get_loc-loc (subst Unplaced (sym c.in-NotANumber.is) tt) _ c.place_outcome.ensures
-
-pub returns-in-Unplaceable : goal.returns-in-Unplaceable
-unfolding of_bits
-returns-in-Unplaceable c =
-    c.answered-in-Unplaceable.ensures
-    ∙ refused (goal.at.returns-in-Unplaceable c).After-get_loc-loc (subst Unplaced (sym c.in-Unplaceable.is) tt) _ c.place_outcome-in-Unplaceable.ensures
+-- where it is none, that is the query's answer
+pub returns-in_err-place : goal.returns-in_err-place
+returns-in_err-place c =
+    let e : ◌≡◌ {A = Answer} c.from_residual.result (Err c.in_err-place.field-0.0) = search rules in
+    let u = unplaced-by c.args.i c.loop-axis.axis c.get_loc.result (sym c.in_err-place.was ∙ c.place_at.ensures) in
+    let s = same c.loop-axis.invariant.taking c.loop-axis-test.true in
+    e ∙ ap Err u.2 ∙ turn-refused (fits c.loop-axis.invariant.taking) c.loop-axis.invariant.turn c.loop-axis-test.true _ s binary64 c.args.vals.now u.0 (u.1 ∙ found (goal.at.returns-in_err-place c).After-place_at)
 
 pub row_at-requires : goal.row_at-requires
-row_at-requires c =
-    origin-below binary64 c.args.mode c.loop-axis.invariant.2 (taken_of c.loop-axis.invariant.3) c.loop-axis.axis c.loop-axis-test.true
-    (straight_of c.args.mode) _ _ (sym c.in-At.is ∙ c.get_loc-loc.ensures.value)
+row_at-requires c = low c.loop-axis.invariant.taking c.loop-axis-test.true _ _ _ (sym c.in_ok-place.was ∙ c.place_at.ensures) c.get_loc.ensures.value
 
--- the axis in hand has placed the query: the index of the block's first value stays small
-small : (c : After-row_at) → At c.in-At.place ≡ (own c.args.mode c.args.axes c.loop-axis.axis).loc (get_or c.args.queries.now c.loop-axis.at nan)
-    → c.loop-axis.base + c.in-At.place.origin * get_or c.args.strides c.loop-axis.axis 0 < 1048576
-small c found =
-    turn_small (fits c.args.mode c.loop-axis.invariant.2 c.loop-axis.invariant.3) c.loop-axis.invariant.5 c.loop-axis-test.true (own c.args.mode c.args.axes c.loop-axis.axis)
-    (same c.args.mode c.loop-axis.invariant.2 c.loop-axis.invariant.3 c.loop-axis.axis c.loop-axis-test.true) _ found
+-- where it has placed the query
+module _ (c : After-place_at) (p : Place) (was : c.place_at.result ≡ Ok p) where
+  placed : ◌≡◌ {A = Loc} (Ok p) ((own c.args.mode c.args.axes c.loop-axis.axis).loc (get_or c.args.queries.now c.loop-axis.at nan))
+  placed = placed-by c.args.i c.loop-axis.axis c.get_loc.result (sym was ∙ c.place_at.ensures) ∙ found c
+
+  -- the index of the block's first value stays small
+  small : c.loop-axis.base + p.origin * get_or c.args.strides c.loop-axis.axis 0 < 1048576
+  small = turn_small (fits c.loop-axis.invariant.taking) c.loop-axis.invariant.turn c.loop-axis-test.true _ (same c.loop-axis.invariant.taking c.loop-axis-test.true) _ placed
+
+pub overflow_mul-base : goal.overflow_mul-base
+overflow_mul-base c = omega (arith, small (goal.at.overflow_mul-base c).After-place_at _ c.in_ok-place.was)
+
+pub overflow_add-base : goal.overflow_add-base
+overflow_add-base c = omega (arith, small (goal.at.overflow_add-base c).After-place_at _ c.in_ok-place.was)
 
 pub overflow_add-at : goal.overflow_add-at
-overflow_add-at c = omega (arith, turn-room (fits c.args.mode c.loop-axis.invariant.2 c.loop-axis.invariant.3) c.loop-axis.invariant.5 c.loop-axis-test.true, c.well_formed)
+overflow_add-at c = omega (arith, turn-room (fits c.loop-axis.invariant.taking) c.loop-axis.invariant.turn c.loop-axis-test.true, c.well_formed)
 
 pub loop-axis-preserved : goal.loop-axis-preserved
 loop-axis-preserved c =
-    let g = (get_or c.args.queries.now c.loop-axis.at nan) in
-    let row = own_row c.args.mode (line c.args.axes c.loop-axis.axis) g _ _
-    c.replaced_at-replaced.ensures c.hold-used.ensures _ c.loop-axis.invariant.4 _
-    c.in-At.place c.is_component-derivative.result c.row_at.ensures in
-    let put = ap (row_at (own c.args.mode c.args.axes c.loop-axis.axis) g c.in-At.place) c.is_component-derivative.ensures in
-    let found = sym c.in-At.is ∙ located (goal.at.loop-axis-preserved c).After-get_loc-loc in
-    let next = turn-next (fits c.args.mode c.loop-axis.invariant.2 c.loop-axis.invariant.3) c.loop-axis.invariant.5 c.loop-axis-test.true (own c.args.mode c.args.axes c.loop-axis.axis)
-    (same c.args.mode c.loop-axis.invariant.2 c.loop-axis.invariant.3 c.loop-axis.axis c.loop-axis-test.true) _ found _ (row ∙ put) in
-    (omega (arith, c.loop-axis-test.true), c.loop-axis.invariant.1, c.loop-axis.invariant.2, c.loop-axis.invariant.3, c.loop-axis.invariant.4, next)
+    let t = c.loop-axis.invariant.taking in
+    let g = get_or c.args.queries.now c.loop-axis.at nan in
+    let row = weighed t c.loop-axis-test.true g _ _ c.replaced_at-replaced.ensures c.hold-used.ensures _ c.in_ok-place.place c.is_component-derivative.result c.row_at.ensures in
+    let put = ap (row_at (own c.args.mode c.args.axes c.loop-axis.axis) g c.in_ok-place.place) c.is_component-derivative.ensures in
+    record {
+      few = c.loop-axis.invariant.few;
+      taking = t;
+      turn = turn-next (fits t) c.loop-axis.invariant.turn c.loop-axis-test.true _ (same t c.loop-axis-test.true) _ (placed (goal.at.loop-axis-preserved c).After-place_at _ c.in_ok-place.was) _ (row ∙ put);
+    }
 
 -- clause 5.5, at the base that the reduction gets: the way of its reads leads to the sum of (origin + j) × stride
-read_here : (c : At-loop-axis) → c.args.axis_count ≤ c.loop-axis.axis → (ps : List Placed) → (found_at (axes_in binary64 c.args.mode c.args.axis_count c.args.axes) c.args.count c.args.queries.now c.args.i) ≡ places ps
+read_here : (c : At-loop-axis) → c.args.axis_count ≤ c.loop-axis.axis → (ps : List Placed) → found_at (axes_in binary64 c.args.mode c.args.axis_count c.args.axes) c.args.count c.args.queries.now c.args.i ≡ places ps
     → (js : List ℕ) (read : ℕ) → Reads c.args.axis_count c.loop-axis.base c.args.strides js read
     → read ≡ offset (shifted (origins_of ps) js) (strides_of (counts_of (axes_in binary64 c.args.mode c.args.axis_count c.args.axes)))
-read_here c h = turn-read (fits c.args.mode c.loop-axis.invariant.2 c.loop-axis.invariant.3) c.loop-axis.invariant.5 h
-
-pub reduce3-requires : goal.reduce3-requires
-reduce3-requires c = (turn-reach (fits c.args.mode c.loop-axis.invariant.2 c.loop-axis.invariant.3) c.loop-axis.invariant.5 c.loop-axis-test.false).2 c.if-axis_count-eq3.true
-
-pub returns-then-axis_count-eq3 : goal.returns-then-axis_count-eq3
-returns-then-axis_count-eq3 c = turn-value (fits c.args.mode c.loop-axis.invariant.2 c.loop-axis.invariant.3) c.loop-axis.invariant.5 c.loop-axis-test.false binary64 _ 3 c.if-axis_count-eq3.true _ c.reduce3.ensures
+read_here c h = turn-read (fits c.loop-axis.invariant.taking) c.loop-axis.invariant.turn h
 
 pub reduce1-requires : goal.reduce1-requires
-reduce1-requires c = (turn-reach (fits c.args.mode c.loop-axis.invariant.2 c.loop-axis.invariant.3) c.loop-axis.invariant.5 c.loop-axis-test.false).0 c.if-axis_count-eq1.true
-
-pub returns-then-axis_count-eq1 : goal.returns-then-axis_count-eq1
-returns-then-axis_count-eq1 c =
-    turn-value (fits c.args.mode c.loop-axis.invariant.2 c.loop-axis.invariant.3) c.loop-axis.invariant.5 c.loop-axis-test.false binary64 _ 1 c.if-axis_count-eq1.true _
-    c.reduce1.ensures
+reduce1-requires c = omega (arith, (turn-reach (fits c.loop-axis.invariant.taking) c.loop-axis.invariant.turn c.loop-axis-test.false).0 c.in-1.is)
 
 pub reduce2-requires : goal.reduce2-requires
-reduce2-requires c = (turn-reach (fits c.args.mode c.loop-axis.invariant.2 c.loop-axis.invariant.3) c.loop-axis.invariant.5 c.loop-axis-test.false).1 c.if-axis_count-eq2.true
+reduce2-requires c = omega (arith, (turn-reach (fits c.loop-axis.invariant.taking) c.loop-axis.invariant.turn c.loop-axis-test.false).1 c.in-2.is)
 
-pub returns-then-axis_count-eq2 : goal.returns-then-axis_count-eq2
-returns-then-axis_count-eq2 c =
-    turn-value (fits c.args.mode c.loop-axis.invariant.2 c.loop-axis.invariant.3) c.loop-axis.invariant.5
-    c.loop-axis-test.false binary64 _ 2 c.if-axis_count-eq2.true _ c.reduce2.ensures
+pub reduce3-requires : goal.reduce3-requires
+reduce3-requires c = omega (arith, (turn-reach (fits c.loop-axis.invariant.taking) c.loop-axis.invariant.turn c.loop-axis-test.false).2 c.in-3.is)
 
 pub reduce4-requires : goal.reduce4-requires
 reduce4-requires c =
-    let n : c.args.axis_count ≡ 4 = omega (arith, (fits c.args.mode c.loop-axis.invariant.2 c.loop-axis.invariant.3).some) in
-    (turn-reach (fits c.args.mode c.loop-axis.invariant.2 c.loop-axis.invariant.3) c.loop-axis.invariant.5 c.loop-axis-test.false).3 n
+    let f = fits c.loop-axis.invariant.taking in
+    omega (arith, (turn-reach f c.loop-axis.invariant.turn c.loop-axis-test.false).3 (omega (arith, f.some, c.in_default)))
 
-pub returns : goal.returns
-returns c =
-    let n : c.args.axis_count ≡ 4 = omega (arith, (fits c.args.mode c.loop-axis.invariant.2 c.loop-axis.invariant.3).some) in
-    turn-value (fits c.args.mode c.loop-axis.invariant.2 c.loop-axis.invariant.3) c.loop-axis.invariant.5 c.loop-axis-test.false binary64 _ 4 n _ c.reduce4.ensures
+pub returns-in-1 : goal.returns-in-1
+returns-in-1 c = turn-value (fits c.loop-axis.invariant.taking) c.loop-axis.invariant.turn c.loop-axis-test.false binary64 _ 1 c.in-1.is _ c.reduce1.ensures
 
-pub overflow_mul-base : goal.overflow_mul-base
-overflow_mul-base c =
-    let found = sym c.in-At.is ∙ located (goal.at.overflow_mul-base c).After-get_loc-loc in
-    omega (arith, small (goal.at.overflow_mul-base c).After-row_at found)
+pub returns-in-2 : goal.returns-in-2
+returns-in-2 c = turn-value (fits c.loop-axis.invariant.taking) c.loop-axis.invariant.turn c.loop-axis-test.false binary64 _ 2 c.in-2.is _ c.reduce2.ensures
 
-pub overflow_add-base : goal.overflow_add-base
-overflow_add-base c =
-    let found = sym c.in-At.is ∙ located (goal.at.overflow_add-base c).After-get_loc-loc in
-    omega (arith, small (goal.at.overflow_add-base c).After-row_at found)
+pub returns-in-3 : goal.returns-in-3
+returns-in-3 c = turn-value (fits c.loop-axis.invariant.taking) c.loop-axis.invariant.turn c.loop-axis-test.false binary64 _ 3 c.in-3.is _ c.reduce3.ensures
+
+pub returns-in_default : goal.returns-in_default
+returns-in_default c =
+    let f = fits c.loop-axis.invariant.taking in
+    turn-value f c.loop-axis.invariant.turn c.loop-axis-test.false binary64 _ 4 (omega (arith, f.some, c.in_default)) _ c.reduce4.ensures

@@ -2,18 +2,16 @@
 use lib.Ieee.{binary32}
 use Rattle.multicubic.specs.declared.EdgeMode.TheVariants.{Held}
 use Rattle.guarantees.proofs.Typing.{array_fits}
-use Rattle.regular_guarantees_f32.proofs.Supplied.{supplied, clamped}
+use Rattle.regular_guarantees.proofs.Supplied.{supplied, clamped}
 use Rattle.with_grad_guarantees.proofs.Promised.{held-together}
 use Rattle.regular_with_grad_guarantees_f32.proofs.held_edge.Goals as goal
 
 pub returns : goal.returns
 returns c =
-    let vals = c.shared_slice_known-1.given in
-    let s = c in
-    let a = s.args in
-    let x = s.well_formed.1.1.1.0 in
+    let a = c.args in
+    let x = c.well_formed.1.1.1.0 in
     let e = c.interp_one_with_grad.ensures in
-    let every = held-together (supplied binary32 a.axis_count a.axes a.vals.now Held vals)
+    let every = held-together (supplied binary32 a.axis_count a.axes a.vals.now Held c.type_inv.vals)
     (clamped binary32 a.axis_count a.axes a.vals.now)
     (array_fits binary32 a.x x.0 x.1.1) (e.answer_value, e.gradient_value, e.marks_value, e.taken_value) in
     record {

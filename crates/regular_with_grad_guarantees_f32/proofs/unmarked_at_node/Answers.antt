@@ -1,7 +1,7 @@
 -- The marks are the definition's own, and at a node those are unset.
 use lib.Ieee.{binary32}
 use Rattle.grid.specs.Query.{at}
-use Rattle.regular_guarantees_f32.proofs.Supplied.{at_nodes}
+use Rattle.regular_guarantees.proofs.Supplied.{at_nodes}
 use Rattle.with_grad_guarantees.proofs.Promised.{unmarked-together}
 use Rattle.regular_with_grad_guarantees_f32.proofs.unmarked_at_node.Goals as goal
 

@@ -1,21 +1,11 @@
 -- `over_axis`: each turn of the loop adds the component of one axis before.
-use Prim.Native.Nat.{◌+◌, ◌-◌, ◌^◌, ◌≤◌, ◌<◌}
+use Prim.Native.Nat.{◌+◌}
 use mathlib.Core.Path.{◌≡◌}
-use lib.ListN.{length}
-use lib.Ieee.{binary64}
 use Rattle.shared_sums.proofs.Joining.{Graded}
 use Rattle.shared_reduction.proofs.over_axis.Given as goal
 
 abbrev pub invariant-loop-d : goal.invariant-loop-d
-invariant-loop-d l = (l.d ≤ l.axis)
-    × (l.axis < 4)
-    × (length l.g0 ≡ 4)
-    × (length l.g1 ≡ 4)
-    × (length l.g2 ≡ 4)
-    × (length l.g3 ≡ 4)
-    × (l.value.sums.taken + (1 + l.axis) < 2 ^ 64)
-    × (l.sums.taken ≡ l.value.sums.taken + l.d)
-    × Graded binary64 l.weights l.g0 l.g1 l.g2 l.g3 l.d l.gradient
-
-abbrev pub decreases-loop-d : goal.decreases-loop-d
-decreases-loop-d l = l.axis - l.d
+invariant-loop-d g l = record {
+  counted : l.sums.taken ≡ l.value.sums.taken + l.d;
+  graded : Graded g.T.Float.format (g.T.Real.floats l.weights) (g.T.Real.floats l.g0) (g.T.Real.floats l.g1) (g.T.Real.floats l.g2) (g.T.Real.floats l.g3) l.d (g.T.Real.floats l.gradient);
+}

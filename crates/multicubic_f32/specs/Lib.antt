@@ -1,2 +1,0 @@
--- The f32 answer as the definitions read it.
-pub mod Same

@@ -1,7 +1,0 @@
--- `high_weight_derivatives`: +0, then the end's three from the far one.
-use lib.Ieee.{of_bits}
-use Rattle.regular_axis_f32.proofs.high_weight_derivatives.Goals as goal
-
-pub returns : goal.returns
-unfolding of_bits
-returns c = rw (← c.end_weight_derivatives-e.ensures)

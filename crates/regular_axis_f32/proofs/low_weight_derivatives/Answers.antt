@@ -1,7 +1,0 @@
--- `low_weight_derivatives`: the end's three, then +0.
-use lib.Ieee.{of_bits}
-use Rattle.regular_axis_f32.proofs.low_weight_derivatives.Goals as goal
-
-pub returns : goal.returns
-unfolding of_bits
-returns c = rw (← c.end_weight_derivatives-e.ensures)

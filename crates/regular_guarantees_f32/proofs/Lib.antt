@@ -1,2 +1,0 @@
--- What a regular grid supplies to the laws of `guarantees`.
-pub mod Supplied

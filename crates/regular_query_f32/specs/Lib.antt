@@ -1,2 +1,0 @@
--- What internal functions ask of each other.
-pub mod Internal

@@ -1,9 +1,0 @@
--- What is left of the queries falls, and there are at most 64.
-use Rattle.std.proofs.Common.{◌-◌, ◌≤◌}
-use Rattle.replay_walk_f32.proofs.run_queries.Given as goal
-
-abbrev pub invariant-loop-i : goal.invariant-loop-i
-invariant-loop-i l = (l.i ≤ l.count) × (l.count ≤ 64)
-
-abbrev pub decreases-loop-i : goal.decreases-loop-i
-decreases-loop-i l = l.count - l.i

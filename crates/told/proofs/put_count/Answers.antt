@@ -1,7 +1,0 @@
--- Past the end nothing is written, and `set` changes nothing.
-use mathlib.Core.Path.{sym}
-use lib.Seq.{set_out}
-use Rattle.told.proofs.put_count.Goals as goal
-
-pub returns-else-i-out : goal.returns-else-i-out
-returns-else-i-out c = sym (set_out _ _ _ c.if-i-out.false)
