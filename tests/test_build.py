@@ -158,10 +158,11 @@ class Build(Copy):
         self.assertEqual(self.called(), [])
 
     def test_keyed_by_the_sources(self):
-        self.own_crates('interp_math', 'ieee', 'multicubic', 'cases', 'capi')
+        self.own_crates('interp_math', 'ieee', 'multicubic', 'slices_f32', 'cases', 'capi')
         self.check()
         self.called()
         for path, built in (('crates/interp_math/src/lib.rt', True), ('crates/ieee/proofs/New.antt', True), ('crates/multicubic/specs/New.antt', True),
+                            ('crates/slices_f32/src/lib.rt', True),
                             ('crates/cases/src/main.rt', False), ('crates/capi/must-fail/new.edit', False), ('README.md', False)):
             with open(os.path.join(self.top, path), 'a') as source:
                 source.write('\n// altered\n')

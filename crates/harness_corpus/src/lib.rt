@@ -1,6 +1,8 @@
 // Reads the corpus's groups and expected answers. Its format is in docs/CORPUS.md.
 #![tactic(auto)]
 
+ghost use Rattle.std.specs.Prelude.{◌≡◌, ◌+◌, ◌<◌, ◌≤◌, IfOk, OnOk, OnErr, length, slice_index};
+
 use harness_words::{Difference, class_of, float_of};
 use multicubic::{Answer, Axis, Check, EdgeMode, Outcome, Place, Saturation};
 use std::fmt;
@@ -103,8 +105,13 @@ pub struct Reader<'a> {
 }
 
 impl Reader<'_> {
-    // The next word.
-    pub fn word(&mut self) -> Result<u64, Fault> {
+    // The next word, where there is one.
+    pub fn word(&mut self) -> Result<u64, Fault>
+        ensures word { IfOk result (λ w. w ≡ slice_index self.old.words.now self.old.at) }
+        ensures ok { OnOk result ((self.old.at < length self.old.words.now) × (self.new.at ≡ self.old.at + 1)) }
+        ensures err { OnErr result ((length self.old.words.now ≤ self.old.at) × (self.new.at ≡ self.old.at)) }
+        ensures words { self.new.words ≡ self.old.words }
+    {
         let word = *self.words.get(self.at).ok_or(Fault::CutShort)?;
         self.at += 1;
         Ok(word)

@@ -23,7 +23,7 @@ pub fn call_interp_one_with_grad(
 }
 
 // The four-term sums that value and gradient take over n axes: clause 6.4 in figures.
-fn sums_of(n: usize) -> u64 {
+pub fn sums_of(n: usize) -> u64 {
     match n {
         1 => 2,
         2 => 11,

@@ -5,6 +5,7 @@
 use harness_calls_f32::{same_components, same_value};
 use harness_corpus::Expected;
 use harness_corpus_f32::{Axes, Group};
+use harness_with_grad::sums_of;
 use harness_words::{Call, Difference, Part, Tally};
 use with_grad::ValueAndGradient;
 
@@ -21,16 +22,6 @@ pub fn call_interp_one_with_grad(
         Axes::Rectilinear(counts) => {
             rectilinear_with_grad_f32::interp_one_with_grad(g.n, counts, axes, vals, g.mode, x)
         }
-    }
-}
-
-// The four-term sums that value and gradient take over n axes: clause 6.4 in figures.
-fn sums_of(n: usize) -> u64 {
-    match n {
-        1 => 2,
-        2 => 11,
-        3 => 48,
-        _ => 197,
     }
 }
 

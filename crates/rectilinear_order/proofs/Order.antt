@@ -1,6 +1,6 @@
 -- An axis in disorder has an entry that is not at or above the one before it. One that none of checks 5, 6 and 10 refuses has each entry above the one
 -- before it, and no other has.
-use mathlib.Core.Path.{◌≡◌, refl}
+use mathlib.Core.Path.{◌≡◌, refl, sym, ◌∙◌}
 use mathlib.Core.Bool.{Bool, true, false, not, ◌||◌, or_comm}
 use mathlib.Core.Logic.{◌⊎◌, inl, inr}
 use mathlib.Core.List.{List, [], ◌∷◌}
@@ -15,6 +15,10 @@ use Rattle.rectilinear_order.specs.Internal.{not_steep}
 
 pub both : {b : Bool} → b ≡ true → b ≡ false → ⊥
 both p q = let z : ◌≡◌ {A = ℕ} 0 1 = cc in omega arith
+
+-- What a test of two values tells of the entries that they are.
+pub compared : {a b x y : Float} {r v : Bool} → a ≡ x → b ≡ y → r ≡ lt x y → r ≡ v → lt a b ≡ v
+compared p q e t = (λ i. lt (p i) (q i)) ∙ sym e ∙ t
 
 pub not-true : (b : Bool) → (b ≡ true → ⊥) → b ≡ false
 not-true true f = absurd (f refl)

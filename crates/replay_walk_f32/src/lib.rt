@@ -8,6 +8,7 @@ use harness_corpus::{End, Fault, Reader};
 use harness_corpus_f32::{Block, expected_at, group_at, query, refusal};
 use harness_words::{Call, Part, Tally, axis_of, number_of, query_of};
 use multicubic::{Outcome, Refusal};
+use replay_walk::at_most_64;
 
 // One query: compares the single calls, and puts what the batches are to hold into both buffers, up to the query that stops them.
 fn run_query(
@@ -65,7 +66,8 @@ fn run_group(t: &mut Tally, reader: &mut Reader, floats: &[f32]) -> Result<(), E
     let mut values = marked();
     let mut gradients = marked();
     let mut batch = b.outcome;
-    for i in 0..b.grid.count {
+    let count = at_most_64(b.grid.count);
+    for i in 0..count {
         batch = run_query(t, reader, b, i, batch, &mut values, &mut gradients)?;
     }
     run_batches(

@@ -4,8 +4,7 @@ use Prim.Native.Nat.{◌-◌}
 use native.Mathlib.Omega.{arith}
 use lib.Ieee.{lt}
 use Rattle.interp_math.proofs.Lists.{float_at, floats_length}
-use Rattle.interp_math.proofs.Comparing.{below}
-use Rattle.rectilinear_order.proofs.Order.{one_more, fault-at, slack, steep}
+use Rattle.rectilinear_order.proofs.Order.{compared, one_more, fault-at, slack, steep}
 use Rattle.rectilinear_order.proofs.not_steep.Goals as goal
 
 pub loop-next-preserved : goal.loop-next-preserved
@@ -13,15 +12,15 @@ loop-next-preserved g c =
     let grid = c.args.grid.now in
     let at = c.loop-next.next in
     let entry = float_at g.met.T.Real.floats_law grid in
-    let in_order = below _ g.met.T.Float.float_order_law _ _ (sym (entry (at - 1) _ (omega arith) c.index-grid-next.is)) (sym (entry at _ (omega arith) c.index-grid-next-in-loop-next.is)) c.lt.ensures c.if-not-lt.false in
+    let in_order = compared (entry (at - 1) _ (omega arith) c.index-grid-next.is) (entry at _ (omega arith) c.index-grid-next-in-loop-next.is) c.is_below.ensures c.if-not-is_below.false in
     one_more lt (g.T.Real.floats grid) at (omega arith) c.loop-next.invariant in_order
 
-pub returns-then-not-lt : goal.returns-then-not-lt
-returns-then-not-lt g c =
+pub returns-then-not-is_below : goal.returns-then-not-is_below
+returns-then-not-is_below g c =
     let grid = c.args.grid.now in
     let at = c.loop-next.next in
     let entry = float_at g.met.T.Real.floats_law grid in
-    let out_of_order = below _ g.met.T.Float.float_order_law _ _ (sym (entry (at - 1) _ (omega arith) c.index-grid-next.is)) (sym (entry at _ (omega arith) c.index-grid-next-in-loop-next.is)) c.lt.ensures c.if-not-lt.true in
+    let out_of_order = compared (entry (at - 1) _ (omega arith) c.index-grid-next.is) (entry at _ (omega arith) c.index-grid-next-in-loop-next.is) c.is_below.ensures c.if-not-is_below.true in
     sym (fault-at lt (g.T.Real.floats grid) _ (slack (g.T.Real.floats grid)) at (omega arith) (omega (arith, floats_length g.met.T.Real.floats_law grid)) out_of_order)
 
 pub returns : goal.returns
