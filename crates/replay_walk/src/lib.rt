@@ -1,7 +1,7 @@
 // Walks the corpus: each group, each of its queries, then its batches.
 #![tactic(auto)]
 
-ghost use Rattle.std.specs.Prelude.{◌≤◌};
+ghost use Rattle.std.specs.Prelude.{◌≡◌, min};
 
 use harness_batches::{marked, put, put_gradient, run_batches};
 use harness_calls::{call_new, same_single};
@@ -59,7 +59,7 @@ fn run_new(t: &mut Tally, b: Block) -> Result<(), End> {
 
 // How many queries of a group are asked, whatever the corpus says.
 pub fn at_most_64(x: usize) -> usize
-    ensures { result ≤ 64 }
+    ensures { result ≡ min x 64 }
 {
     x.min(64)
 }
