@@ -3,6 +3,7 @@
 
 ghost use Rattle.std.specs.Prelude.{◌≡◌, List, map};
 ghost use Rattle.std.specs.Float.{Float as Ieee754};
+ghost use Rattle.std.specs.Float.Ieee.{lt};
 ghost use Rattle.interp_math.specs.Basis.{mul_add, hermite_basis, hermite_basis_derivative, scaled};
 ghost use Rattle.interp_math.specs.Dot.{dot4};
 ghost use Rattle.interp_math.specs.Lists.{map_rows};
@@ -17,6 +18,13 @@ pub trait Real: Float {
 
     ghost rows: { List (List Self) → List (List Ieee754) };
 
+    // Whether a value is below the other. A type may answer by its own operator: `<` of a type parameter goes by `partial_cmp`, which leaves branches.
+    fn is_below(self, other: Self) -> bool
+        ensures { result ≡ lt (Self.float self) (Self.float other) }
+    {
+        self < other
+    }
+
     ghost floats_law: { (xs : List Self) → map Self.float xs ≡ floats xs };
 
     ghost rows_law: { (xs : List (List Self)) → map (map Self.float) xs ≡ rows xs };
@@ -27,6 +35,10 @@ impl Real for f64 {
 
     ghost rows = { λ doubles. doubles };
 
+    fn is_below(self, other: f64) -> bool {
+        self < other
+    }
+
     ghost floats_law = { map-id };
 
     ghost rows_law = { map_rows };
@@ -36,6 +48,10 @@ impl Real for f32 {
     ghost floats = { λ singles. singles };
 
     ghost rows = { λ singles. singles };
+
+    fn is_below(self, other: f32) -> bool {
+        self < other
+    }
 
     ghost floats_law = { map-id };
 

@@ -12,13 +12,12 @@ ghost use Rattle.rectilinear_axis.specs.Weights.{weights_of, derivatives_of, cel
 
 use interp_math::{Real, hermite_basis, hermite_basis_derivative, scale_weights};
 use multicubic::{Loc, LocError, Marks, Place, Saturation, place_from};
-use rectilinear_order::Compare;
 use rectilinear_weights::{
     high_weight_derivatives, high_weights, interior, low_weight_derivatives, low_weights,
 };
 
 // 1 where the entry is below v, else 0: as a number, so that the search's next step is no branch.
-fn entry_below<T: Compare>(grid: &[T], at: usize, v: T) -> usize
+fn entry_below<T: Real>(grid: &[T], at: usize, v: T) -> usize
     requires at_in_bounds { at < length grid.now }
     requires grid_value { disorder (T.floats grid.now) ≡ false }
     ensures { Test result at (count_below (T.float v) (T.floats grid.now)) }
@@ -27,7 +26,7 @@ fn entry_below<T: Compare>(grid: &[T], at: usize, v: T) -> usize
 }
 
 // lo, forward by as many of its next three quarters as end below v.
-fn forward<T: Compare>(grid: &[T], lo: usize, q: usize, v: T) -> usize
+fn forward<T: Real>(grid: &[T], lo: usize, q: usize, v: T) -> usize
     requires q_in_bounds { lo + 3 * q < length grid.now }
     requires grid_value { disorder (T.floats grid.now) ≡ false }
     requires lo_bound { lo ≤ count_below (T.float v) (T.floats grid.now) }
@@ -40,7 +39,7 @@ fn forward<T: Compare>(grid: &[T], lo: usize, q: usize, v: T) -> usize
 }
 
 // The number of entries below v, which is at least lo and at most lo + size.
-fn count_from<T: Compare>(grid: &[T], lo: usize, size: usize, v: T) -> usize
+fn count_from<T: Real>(grid: &[T], lo: usize, size: usize, v: T) -> usize
     requires size_in_bounds { lo + size ≤ length grid.now }
     requires grid_value { disorder (T.floats grid.now) ≡ false }
     requires lo_bound { lo ≤ count_below (T.float v) (T.floats grid.now) }
@@ -55,7 +54,7 @@ fn count_from<T: Compare>(grid: &[T], lo: usize, size: usize, v: T) -> usize
 }
 
 // The number of entries below v, by quarters.
-fn partition_point<T: Compare>(grid: &[T], v: T) -> usize
+fn partition_point<T: Real>(grid: &[T], v: T) -> usize
     requires { disorder (T.floats grid.now) ≡ false }
     ensures { result ≡ count_below (T.float v) (T.floats grid.now) }
 {
@@ -70,7 +69,7 @@ fn partition_point<T: Compare>(grid: &[T], v: T) -> usize
 }
 
 // The place of v.
-pub fn get_loc<T: Compare>(grid: &[T], v: T) -> Loc
+pub fn get_loc<T: Real>(grid: &[T], v: T) -> Loc
     requires in_bounds { 4 ≤ length grid.now }
     requires grid_value { disorder (T.floats grid.now) ≡ false }
     ensures value { result ≡ loc_of (T.floats grid.now) (T.float v) }
@@ -85,7 +84,7 @@ pub fn get_loc<T: Compare>(grid: &[T], v: T) -> Loc
 }
 
 // Past which ends of the axis v lies.
-pub fn marks_at<T: Compare>(grid: &[T], v: T) -> Marks
+pub fn marks_at<T: Real>(grid: &[T], v: T) -> Marks
     requires { 4 ≤ length grid.now }
     ensures below_value { result.below ≡ lt (T.float v) (get_or (T.floats grid.now) 0 nan) }
     ensures above_value { result.above ≡ lt (get_or (T.floats grid.now) (length grid.now - 1) nan) (T.float v) }

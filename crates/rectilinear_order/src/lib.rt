@@ -2,7 +2,6 @@
 #![tactic(auto)]
 
 ghost use Rattle.std.specs.Prelude.{◌≡◌, ℕ, ◌≤◌, ◌<◌, length, get_or, take};
-ghost use Rattle.std.specs.Float.Ieee.{lt};
 ghost use Rattle.multicubic.specs.Grid.{sum, lowest};
 ghost use Rattle.rectilinear_order.specs.Grid.{axes_of, not_rising, disorder, order_checks};
 ghost use Rattle.rectilinear_order.specs.Internal.{not_steep, fault_of};
@@ -10,26 +9,11 @@ ghost use Rattle.rectilinear_order.specs.Internal.{not_steep, fault_of};
 use interp_math::Real;
 use multicubic::{Check, Outcome};
 
-// A float type with its own operator for a comparison that is made over and over: `<` of a type parameter goes by `partial_cmp`, which leaves branches.
-pub trait Compare: Real {
-    fn is_below(self, other: Self) -> bool
-        ensures { result ≡ lt (Self.float self) (Self.float other) };
-}
-
-impl Compare for f64 {
-    fn is_below(self, other: f64) -> bool {
-        self < other
-    }
-}
-
-impl Compare for f32 {
-    fn is_below(self, other: f32) -> bool {
-        self < other
-    }
-}
+// `Real`, for a caller that names it after the comparison, `is_below`.
+pub use interp_math::Real as Compare;
 
 // Check 5 on one axis: entry 1 is not above entry 0.
-fn not_rising<T: Compare>(grid: &[T]) -> bool
+fn not_rising<T: Real>(grid: &[T]) -> bool
     requires { 4 ≤ length grid.now }
     ensures { result ≡ not_rising (T.floats grid.now) }
 {
@@ -52,7 +36,7 @@ fn disordered<T: Real>(grid: &[T]) -> bool
 }
 
 // Whether 5, 6 or 10 refuses one axis: an entry is not above the one before it.
-fn not_steep<T: Compare>(grid: &[T]) -> bool
+fn not_steep<T: Real>(grid: &[T]) -> bool
     requires { 4 ≤ length grid.now }
     ensures { result ≡ not_steep (T.floats grid.now) }
 {
@@ -67,7 +51,7 @@ fn not_steep<T: Compare>(grid: &[T]) -> bool
 }
 
 // Check 5, check 6, or all three.
-fn faulty<T: Compare>(grid: &[T], check: Check) -> bool
+fn faulty<T: Real>(grid: &[T], check: Check) -> bool
     requires { 4 ≤ length grid.now }
     ensures { result ≡ fault_of check (T.floats grid.now) }
 {
@@ -79,12 +63,7 @@ fn faulty<T: Compare>(grid: &[T], check: Check) -> bool
 }
 
 // The refusal of the lowest axis that the check finds at fault.
-fn first_faulty<T: Compare>(
-    axis_count: usize,
-    counts: [usize; 4],
-    axes: &[T],
-    check: Check,
-) -> Outcome
+fn first_faulty<T: Real>(axis_count: usize, counts: [usize; 4], axes: &[T], check: Check) -> Outcome
     requires axis_count_bound { axis_count ≤ 4 }
     requires counts_value { sum (take axis_count counts) ≡ length axes.now }
     requires by_index { (i : ℕ) → i < axis_count → 4 ≤ get_or counts i 0 }
@@ -103,7 +82,7 @@ fn first_faulty<T: Compare>(
 
 // Checks 5, 6 and 10, each over all axes before the next. One pass takes axes that rise strictly; else it finds the lowest that does not, which
 // is refused with 10 where 5 and 6 refuse none.
-pub fn check_order<T: Compare>(axis_count: usize, counts: [usize; 4], axes: &[T]) -> Outcome
+pub fn check_order<T: Real>(axis_count: usize, counts: [usize; 4], axes: &[T]) -> Outcome
     requires axis_count_bound { axis_count ≤ 4 }
     requires counts_value { sum (take axis_count counts) ≡ length axes.now }
     requires by_index { (i : ℕ) → i < axis_count → 4 ≤ get_or counts i 0 }
